@@ -1,0 +1,7 @@
+-- Laws that belong to no crate above.
+pub mod Bools
+pub mod Decisions
+pub mod IndexLaws
+pub mod HighestLaws
+pub mod LineLaws
+pub mod ListLaws

@@ -1,0 +1,67 @@
+-- Lines: none holds exactly when the answer is `otherwise`, and a refusal is given exactly when it is that of the first line that holds.
+use mathlib.Core.Path.{_≡_, refl, sym, ap, _∙_}
+use mathlib.Core.Bool.{Bool, true, false, cond}
+use mathlib.Core.List.{List, [], _∷_, _++_}
+use Rattle.laws.specs.Lines.{Line, firstLine}
+use Rattle.laws.proofs.Bools.{bool-cases}
+
+module _ {R : Type 0} where
+  -- no line holds
+  abbrev pub Off : List (Line R) → Type 0
+  Off [] = Unit {0}
+  Off (l ∷ ls) = (l .holds ≡ false) × Off ls
+
+  -- the first line that holds is this one, with that refusal
+  pub record FirstIs (r : R) (ls : List (Line R)) : Type 0 where
+    pub earlier : List (Line R)
+    pub this : Line R
+    pub later : List (Line R)
+    pub split : ls ≡ earlier ++ (this ∷ later)
+    pub none-before : Off earlier
+    pub holds : this .holds ≡ true
+    pub refuses : this .refusal ≡ r
+
+module _ {R A : Type 0} (given : R → A) (otherwise : A) where
+  pub off-first : (ls : List (Line R)) → Off ls → firstLine given otherwise ls ≡ otherwise
+  off-first [] h = refl
+  off-first (l ∷ ls) h = rw (h .0) (off-first ls (h .1))
+
+  pub is-first : (r : R) (ls : List (Line R)) → FirstIs r ls → firstLine given otherwise ls ≡ given r
+  is-first r ls f = ap (firstLine given otherwise) (f .split) ∙ past (f .earlier) (f .none-before) ∙ rw (f .holds) (ap given (f .refuses))
+    where
+      past : (xs : List (Line R)) → Off xs → firstLine given otherwise (xs ++ (f .this ∷ f .later)) ≡ firstLine given otherwise (f .this ∷ f .later)
+      past [] h = refl
+      past (x ∷ xs) h = rw (h .0) (past xs (h .1))
+
+  module _ (apart : (r : R) → given r ≡ otherwise → ⊥) where
+    pub first-off : (ls : List (Line R)) → firstLine given otherwise ls ≡ otherwise → Off ls
+    first-off [] e = tt
+    first-off (l ∷ ls) e =
+        bool-cases (l .holds) (λ t. absurd (apart (l .refusal) (rw t at e))) (λ t. (t, first-off ls (rw t at e)))
+
+    module _ (same : (r q : R) → given r ≡ given q → r ≡ q) where
+      pub first-is : (r : R) (ls : List (Line R)) → firstLine given otherwise ls ≡ given r → FirstIs r ls
+      first-is r [] e = absurd (apart r (sym e))
+      first-is r (l ∷ ls) e =
+          bool-cases (l .holds)
+          (λ t.
+          record {
+            earlier = [];
+            this = l;
+            later = ls;
+            split = refl;
+            none-before = tt;
+            holds = t;
+            refuses = same (l .refusal) r (rw t at e);
+          })
+          (λ t.
+          let f = first-is r ls (rw t at e) in
+          record {
+            earlier = l ∷ f .earlier;
+            this = f .this;
+            later = f .later;
+            split = ap (λ (x : List (Line R)). l ∷ x) (f .split);
+            none-before = (t, f .none-before);
+            holds = f .holds;
+            refuses = f .refuses;
+          })

@@ -1,0 +1,15 @@
+-- The lines of a verdict: each has its refusal and says whether it holds; the first that holds is given.
+use mathlib.Core.Bool.{Bool, cond}
+use mathlib.Core.List.{List, [], _∷_}
+
+pub record Line (R : Type 0) : Type 0 where
+  pub refusal : R
+  pub holds : Bool
+
+abbrev pub line : {R : Type 0} → R → Bool → Line R
+line r b = record { refusal = r; holds = b }
+
+-- what the first line that holds makes of its refusal; `otherwise` where none holds
+abbrev pub firstLine : {R : Type 0} {A : Type 0} → (R → A) → A → List (Line R) → A
+firstLine given otherwise [] = otherwise
+firstLine given otherwise (l ∷ ls) = cond (l .holds) (given (l .refusal)) (firstLine given otherwise ls)

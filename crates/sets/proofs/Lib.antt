@@ -1,0 +1,4 @@
+-- Laws of sets and of following a relation.
+pub mod SetLaws
+pub mod ReachLaws
+pub mod OutwardLaws

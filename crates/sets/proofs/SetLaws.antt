@@ -1,0 +1,134 @@
+-- Sets held as the bits of one number: what is in the empty set, in a set with one more, in a union; two sets with the same members are the same number.
+use Prim.Native.Nat.{ℕ, zero, suc, _+_, _*_, _/_, _%_, _^_, _≤_, _<_, zero-le, suc-le-suc}
+use native.Mathlib.Nat.{le-of-suc-le-suc, not-suc-le-zero, zero-lt-suc, zero-div, div-one, pow-suc, mul-mod-left, mul-div-mul-right, div-eq-of-lt, lt-of-lt-of-le, mod-lt, div-add-mod', div-lt-iff-lt-mul, mul-comm, div-div-eq-div-mul}
+use native.Mathlib.Omega.{arith}
+use mathlib.Core.Path.{_≡_, refl, sym, ap, ap₂, _∙_, subst, fun-ext}
+use mathlib.Core.Bool.{Bool, true, false, cond, _||_, false≢true}
+use lib.Dec.{eqb, eqb·suc-zero, eqb·zero-suc, eqb·suc-suc}
+use borrow.Author.Tests.{lt-ltb, le-ltb}
+use Rattle.terms.specs.Limits.{mostTransactions}
+use lib.Pow.{pow-mono, pow-pos, pow-lt}
+use lib.Arith.{lt-one}
+use lib.Bits.{bitOr, bitAnd, or-shr, or-mod, or-add-and, and-le-r, or-lt}
+use lib.Count.{ones, ones-step, trailingZeros, under}
+use Rattle.laws.specs.Index.{one, countBelow, firstBelow}
+use Rattle.sets.specs.Sets.{mem, inserted}
+
+two-pos : 0 < 2
+two-pos = zero-lt-suc 1
+
+pub mem-empty : (t : ℕ) → mem 0 t ≡ false
+unfolding mem
+mem-empty t = ap (λ (n : ℕ). eqb (n % 2) 1) (zero-div (2 ^ t))
+
+-- nothing past the width
+pub mem-past : (x t : ℕ) → x < 2 ^ 64 → 64 ≤ t → mem x t ≡ false
+unfolding mem
+mem-past x t h l = ap (λ (n : ℕ). eqb (n % 2) 1) (div-eq-of-lt (lt-of-lt-of-le h (pow-mono l)))
+
+digit-or : (u v : ℕ) → u < 2 → v < 2 → eqb (bitOr u v) 1 ≡ (eqb u 1 || eqb v 1)
+digit-or zero v p q = refl
+digit-or (suc zero) zero p q = refl
+digit-or (suc zero) (suc zero) p q = refl
+digit-or (suc zero) (suc (suc v)) p q = absurd (not-suc-le-zero (le-of-suc-le-suc (le-of-suc-le-suc q)))
+digit-or (suc (suc u)) v p q = absurd (not-suc-le-zero (le-of-suc-le-suc (le-of-suc-le-suc p)))
+
+pub mem-union : (x y t : ℕ) → mem (bitOr x y) t ≡ (mem x t || mem y t)
+unfolding mem
+mem-union x y t =
+    ap (λ (n : ℕ). eqb (n % 2) 1) (or-shr x y t)
+    ∙ ap (λ (n : ℕ). eqb n 1) (or-mod (x / 2 ^ t) (y / 2 ^ t) 1)
+    ∙ digit-or (x / 2 ^ t % 2) (y / 2 ^ t % 2) (mod-lt (x / 2 ^ t) two-pos) (mod-lt (y / 2 ^ t) two-pos)
+
+-- the set of k alone
+pub mem-single : (k t : ℕ) → mem (2 ^ k) t ≡ eqb t k
+unfolding mem
+mem-single zero zero = refl
+mem-single (suc k) zero =
+    ap (λ (n : ℕ). eqb (n % 2) 1) (div-one (2 ^ suc k) ∙ pow-suc 2 k) ∙ ap (λ (n : ℕ). eqb n 1) (mul-mod-left (2 ^ k) 2) ∙ sym (eqb·zero-suc k)
+mem-single zero (suc t) = ap (λ (n : ℕ). eqb (n % 2) 1) (div-eq-of-lt (pow-lt {i = 0} {j = suc t} (zero-lt-suc t))) ∙ sym (eqb·suc-zero t)
+mem-single (suc k) (suc t) =
+    ap₂ (λ (m n : ℕ). eqb (m / n % 2) 1) (pow-suc 2 k) (pow-suc 2 t)
+    ∙ ap (λ (n : ℕ). eqb (n % 2) 1) (mul-div-mul-right (2 ^ k) (2 ^ t) two-pos)
+    ∙ mem-single k t
+    ∙ sym (eqb·suc-suc t k)
+
+-- the set with k too
+pub mem-insert : (x k t : ℕ) → mem (bitOr x (2 ^ k)) t ≡ (mem x t || eqb t k)
+mem-insert x k t = mem-union x (2 ^ k) t ∙ ap (λ (b : Bool). mem x t || b) (mem-single k t)
+
+-- `inserted`, by its test
+pub inserted-in : (x t : ℕ) → t < mostTransactions → inserted x t ≡ bitOr x (2 ^ t)
+unfolding inserted
+inserted-in x t h = rw (lt-ltb t mostTransactions h)
+
+pub inserted-past : (x t : ℕ) → mostTransactions ≤ t → inserted x t ≡ x
+unfolding inserted
+inserted-past x t h = rw (le-ltb t mostTransactions h)
+
+-- a union is no smaller, as a number
+pub union-le : (x y : ℕ) → x ≤ bitOr x y
+union-le x y = omega (arith, or-add-and x y, and-le-r x y)
+
+-- the members past the lowest bit
+pub mem-half : (x t : ℕ) → mem x (suc t) ≡ mem (x / 2) t
+unfolding mem
+mem-half x t = ap (λ (n : ℕ). eqb (x / n % 2) 1) (pow-suc 2 t ∙ mul-comm (2 ^ t) 2) ∙ ap (λ (n : ℕ). eqb (n % 2) 1) (sym (div-div-eq-div-mul x 2 (2 ^ t)))
+
+digit-same : (u v : ℕ) → u < 2 → v < 2 → eqb u 1 ≡ eqb v 1 → u ≡ v
+digit-same zero zero p q e = refl
+digit-same zero (suc zero) p q e = absurd (false≢true e)
+digit-same zero (suc (suc v)) p q e = absurd (not-suc-le-zero (le-of-suc-le-suc (le-of-suc-le-suc q)))
+digit-same (suc zero) zero p q e = absurd (false≢true (sym e))
+digit-same (suc zero) (suc zero) p q e = refl
+digit-same (suc zero) (suc (suc v)) p q e = absurd (not-suc-le-zero (le-of-suc-le-suc (le-of-suc-le-suc q)))
+digit-same (suc (suc u)) v p q e = absurd (not-suc-le-zero (le-of-suc-le-suc (le-of-suc-le-suc p)))
+
+half-lt : (n x : ℕ) → x < 2 ^ suc n → x / 2 < 2 ^ n
+half-lt n x h = div-lt-iff-lt-mul two-pos .1 (subst (λ (m : ℕ). x < m) (pow-suc 2 n) h)
+
+-- two sets of numbers below n with the same members are the same number
+pub same-set : (n x y : ℕ) → x < 2 ^ n → y < 2 ^ n → ((t : ℕ) → t < n → mem x t ≡ mem y t) → x ≡ y
+unfolding mem
+same-set zero x y hx hy h = lt-one hx ∙ sym (lt-one hy)
+same-set (suc n) x y hx hy h =
+    let low : x % 2 ≡ y % 2 =
+    digit-same (x % 2) (y % 2) (mod-lt x two-pos) (mod-lt y two-pos)
+    (ap (λ (m : ℕ). eqb (m % 2) 1) (sym (div-one x)) ∙ h 0 (zero-lt-suc n) ∙ ap (λ (m : ℕ). eqb (m % 2) 1) (div-one y))
+    in
+    let high : x / 2 ≡ y / 2 = same-set n (x / 2) (y / 2) (half-lt n x hx) (half-lt n y hy) (λ t l. sym (mem-half x t) ∙ h (suc t) (suc-le-suc l) ∙ mem-half y t) in
+    sym (div-add-mod' x 2) ∙ ap₂ (λ (q r : ℕ). q * 2 + r) high low ∙ div-add-mod' y 2
+
+-- ---- the counts: `count_ones` and `trailing_zeros` of a set
+
+digit-one : (u : ℕ) → u < 2 → u ≡ one (eqb u 1)
+digit-one zero p = refl
+digit-one (suc zero) p = refl
+digit-one (suc (suc u)) p = absurd (not-suc-le-zero (le-of-suc-le-suc (le-of-suc-le-suc p)))
+
+digit-first : (u n : ℕ) → u < 2 → under u n ≡ cond (eqb u 1) 0 (suc n)
+digit-first zero n p = refl
+digit-first (suc zero) n p = refl
+digit-first (suc (suc u)) n p = absurd (not-suc-le-zero (le-of-suc-le-suc (le-of-suc-le-suc p)))
+
+lowest-digit : (x : ℕ) → eqb (x % 2) 1 ≡ mem x 0
+unfolding mem
+lowest-digit x = ap (λ (m : ℕ). eqb (m % 2) 1) (sym (div-one x))
+
+-- how many members a set has
+pub ones-count : (n x : ℕ) → x < 2 ^ n → ones x ≡ countBelow n (mem x)
+unfolding countBelow ones
+ones-count zero x h = ap ones (lt-one h)
+ones-count (suc n) x h =
+    ones-step x
+    ∙ ap₂ (λ (u v : ℕ). u + v) (digit-one (x % 2) (mod-lt x two-pos) ∙ ap one (lowest-digit x))
+    (ones-count n (x / 2) (half-lt n x h) ∙ ap (countBelow n) (fun-ext (λ t. sym (mem-half x t))))
+
+-- the lowest member, n where there is none below n
+pub trailing-first : (n x : ℕ) → trailingZeros n x ≡ firstBelow n (mem x)
+unfolding firstBelow trailingZeros
+trailing-first zero x = refl
+trailing-first (suc n) x =
+    ap (under (x % 2)) (trailing-first n (x / 2) ∙ ap (firstBelow n) (fun-ext (λ t. sym (mem-half x t))))
+    ∙ digit-first (x % 2) (firstBelow n (λ t. mem x (suc t))) (mod-lt x two-pos)
+    ∙ ap (λ (b : Bool). cond b 0 (suc (firstBelow n (λ t. mem x (suc t))))) (lowest-digit x)

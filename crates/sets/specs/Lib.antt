@@ -1,0 +1,3 @@
+-- The definitions that the contracts of `sets` cite, and following a relation.
+pub mod Sets
+pub mod Reach

@@ -1,0 +1,14 @@
+-- Sets of transactions, held as the bits of one number (document 01, 'Closing': "sets of transactions are held as the bits of one number").
+use Prim.Native.Nat.{ℕ, _/_, _%_, _^_}
+use mathlib.Core.Bool.{Bool, cond}
+use lib.Bits.{bitOr}
+use lib.Dec.{eqb, ltb}
+use Rattle.terms.specs.Limits.{mostTransactions}
+
+-- t is in the set x: bit t of x is 1
+unfoldable pub mem : ℕ → ℕ → Bool
+mem x t = eqb (x / 2 ^ t % 2) 1
+
+-- the set with t too; what is no transaction goes into no set
+unfoldable pub inserted : ℕ → ℕ → ℕ
+inserted x t = cond (ltb t mostTransactions) (bitOr x (2 ^ t)) x

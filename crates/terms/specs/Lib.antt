@@ -1,0 +1,3 @@
+-- The definitions that the contracts of `terms` cite.
+pub mod Limits
+pub mod Refusals
