@@ -1,0 +1,209 @@
+//! Books whose last event is meant to be refused by one number.
+
+use crate::draft::Event;
+use crate::model::{Circumstance, Model, Phase};
+use crate::random::Random;
+use crate::story::{full_story, wild_event, Story};
+use crate::tables::{plain_numbers, tables_for};
+
+/// How many stories are tried until an aim is given up.
+const ATTEMPTS: usize = 6;
+
+/// A story whose last event is meant to be refused by the number; none if it
+/// doesn't come to that in a few attempts.
+pub fn story_aimed_at(random: &mut Random, number: u8) -> Option<Story> {
+    (0..ATTEMPTS).find_map(|_| {
+        let mut story = match number {
+            13 => story_of_sagas(random),
+            16 if random.one_in(2) => story_with_ring(random)?,
+            17 => story_with_active_undo(random)?,
+            18 => full_story(random, 5)?,
+            _ => story_to_go_wrong(random, number),
+        };
+        let (place, event) = match number {
+            13..=16 => chance_on_the_way(random, &story, number)?,
+            _ => chance_at_the_end(random, &story, number)?,
+        };
+        story.draft.events.truncate(place);
+        story.draft.events.push(event);
+        Some(story)
+    })
+}
+
+fn story_to_go_wrong(random: &mut Random, number: u8) -> Story {
+    let mut story = Story::new(tables_for(random, number));
+    let events = random.within(1..=70);
+    story.go_on(random, events);
+    story
+}
+
+fn story_of_sagas(random: &mut Random) -> Story {
+    let mut story = Story::new(tables_for(random, 13));
+    let events = random.within(20..=80);
+    story.move_sagas(random, events);
+    story
+}
+
+/// A story with an active undo, now and then with 256 operations too.
+fn story_with_active_undo(random: &mut Random) -> Option<Story> {
+    let mut story = Story::new(tables_for(random, 17));
+    let events = random.within(0..=15);
+    story.go_on(random, events);
+    for _ in 0..60 {
+        if has_active_undo(&story.model) {
+            let full = !random.one_in(8) || story.fill_up(random);
+            return full.then_some(story);
+        }
+        story.move_sagas(random, 1);
+    }
+    None
+}
+
+fn has_active_undo(model: &Model) -> bool {
+    let sagas = model.sagas();
+    let mut undos = sagas
+        .iter()
+        .flat_map(|(saga, steps)| saga + steps + 1..saga + 2 * steps);
+    undos.any(|undo| model.phase(undo) == Phase::Active)
+}
+
+/// A story in which several transactions are tied one after another and the
+/// last back to the first, now and then through committed ones.
+fn story_with_ring(random: &mut Random) -> Option<Story> {
+    let mut story = Story::new(tables_for(random, 16));
+    let events = random.within(0..=15);
+    story.go_on(random, events);
+    for t in plain_numbers(&story.draft.tables) {
+        story.go_on_with(Event::Begin(t));
+    }
+    let mut members = story.model.active_delegating();
+    let length = random.within(2..=6);
+    while members.len() > length {
+        members.swap_remove(random.below(members.len()));
+    }
+    for link in members.windows(2) {
+        tie(random, &mut story, link[0], link[1]);
+    }
+    let (first, last) = (*members.first()?, *members.last()?);
+    match members.as_slice() {
+        [_, between @ .., _] if !between.is_empty() && random.one_in(2) => {
+            let last_operation = story.model.operations.len().checked_sub(1)?;
+            for t in between {
+                story.go_on_with(Event::Commit(*t as u16));
+            }
+            let handed = Event::Delegate(last as u16, first as u16, last_operation as u16);
+            story.go_on_with(handed);
+        }
+        _ => tie(random, &mut story, last, first),
+    }
+    Some(story)
+}
+
+/// Ties one transaction before another on some object.
+fn tie(random: &mut Random, story: &mut Story, earlier: usize, later: usize) {
+    let object = random.below(story.model.objects.into()) as u16;
+    let mark = random.below(2) as u16;
+    story.go_on_with(Event::Operation(earlier as u16, object, mark));
+    story.go_on_with(Event::Operation(later as u16, object, 1));
+}
+
+/// An event the model refuses by the number, and after how many others.
+type Chance = (usize, Event);
+
+/// A chance after the last event, if one is found.
+fn chance_at_the_end(random: &mut Random, story: &Story, number: u8) -> Option<Chance> {
+    let codes: &[usize] = match number {
+        9 => &[3, 4, 5],
+        10 => &[1],
+        11 => &[2, 3, 4, 5],
+        12 => &[5],
+        17 | 18 => &[4],
+        _ => &[1, 2, 3, 4, 5],
+    };
+    let mut chances = Chances::default();
+    for _ in 0..120 {
+        let code = random.pick(codes);
+        let event = wild_event(random, &story.model, code);
+        chances.consider(&story.model, number, (story.draft.events.len(), event));
+    }
+    chances.pick(random)
+}
+
+/// A chance to begin, commit or abort wrongly anywhere in the story, if there
+/// is one.
+fn chance_on_the_way(random: &mut Random, story: &Story, number: u8) -> Option<Chance> {
+    let mut chances = Chances::default();
+    let mut model = Model::new(&story.draft.tables);
+    for (place, event) in story.draft.events.iter().enumerate() {
+        model.take(*event);
+        for t in 0..model.transactions() as u16 {
+            for wrong in [Event::Begin(t), Event::Commit(t), Event::Abort(t)] {
+                chances.consider(&model, number, (place + 1, wrong));
+            }
+        }
+    }
+    chances.pick(random)
+}
+
+/// Chances, parted by the way in which the number comes about.
+#[derive(Default)]
+struct Chances(Vec<(Vec<Circumstance>, Vec<Chance>)>);
+
+impl Chances {
+    /// Notes a chance if the model refuses its event by the number. Of saga
+    /// rules, one only is to be broken.
+    fn consider(&mut self, model: &Model, number: u8, chance: Chance) {
+        let (_, event) = chance;
+        if model.verdict(event) != number || (number == 13 && model.broken_saga_rules(event) > 1) {
+            return;
+        }
+        let way = model.circumstances(event);
+        match self.0.iter_mut().find(|(known, _)| *known == way) {
+            Some((_, chances)) => chances.push(chance),
+            None => self.0.push((way, vec![chance])),
+        }
+    }
+
+    /// Each way is as likely as the others.
+    fn pick(&self, random: &mut Random) -> Option<Chance> {
+        if self.0.is_empty() {
+            return None;
+        }
+        let (_, chances) = &self.0[random.below(self.0.len())];
+        Some(random.pick(chances))
+    }
+}
+
+#[cfg(test)]
+mod tests {
+    use super::*;
+
+    #[test]
+    fn the_last_event_is_refused_as_meant_in_many_ways() {
+        for number in 8..=18 {
+            let mut ways = Vec::new();
+            for index in 0..60 {
+                let random = &mut Random::new(number.into(), index);
+                let Some(story) = story_aimed_at(random, number) else {
+                    continue;
+                };
+                let reading = second::read(&story.draft.bytes());
+                assert_eq!(reading.number, number);
+                assert_eq!(reading.events + 1, story.draft.events.len());
+                let (last, before) = story.draft.events.split_last().unwrap();
+                let mut model = Model::new(&story.draft.tables);
+                before.iter().for_each(|event| model.take(*event));
+                let way = model.circumstances(*last);
+                if !ways.contains(&way) {
+                    ways.push(way);
+                }
+            }
+            let expected = match number {
+                13 => 15,
+                9 | 11 | 14 => 8,
+                _ => 1,
+            };
+            assert!(ways.len() >= expected, "{number}: {}", ways.len());
+        }
+    }
+}

@@ -1,0 +1,329 @@
+//! Books and lists of fields, each fixed by a seed and an index.
+
+use crate::aim;
+use crate::damage;
+use crate::draft::encode_field;
+use crate::noise;
+use crate::random::Random;
+use crate::story::{self, Story};
+
+/// A book and the kind of book it was meant to be.
+#[derive(Clone, Debug, PartialEq, Eq)]
+pub struct Made {
+    pub bytes: Vec<u8>,
+    pub kind: &'static str,
+}
+
+type Maker = fn(&mut Random) -> Made;
+
+/// How often each kind is made, out of the sum of all.
+const MAKERS: [(usize, Maker); 19] = [
+    (170, deep),
+    (20, full),
+    (110, strayed),
+    (300, aimed),
+    (110, damage::torn),
+    (40, damage::overlong),
+    (25, damage::above_the_highest_value),
+    (45, damage::bad_count),
+    (35, damage::too_many_transactions),
+    (80, damage::bad_dependency),
+    (15, damage::bad_edition),
+    (20, damage::bad_event_code),
+    (25, damage::flipped),
+    (25, damage::deleted),
+    (25, damage::inserted),
+    (25, damage::swapped),
+    (60, noise::noise),
+    (5, noise::empty),
+    (5, shortest),
+];
+
+/// One book in so many is a long one, every other of these too long.
+const LONG_ONES: u64 = 500;
+
+/// The book with the index among those of the seed.
+pub fn book(seed: u64, index: u64) -> Made {
+    let mut random = Random::new(seed, index);
+    if index % (2 * LONG_ONES) == LONG_ONES - 1 {
+        return noise::too_long(&mut random);
+    }
+    if index % (2 * LONG_ONES) == 2 * LONG_ONES - 1 {
+        return noise::longest(&mut random);
+    }
+    let chosen = random.weighted(MAKERS.iter().map(|(weight, _)| *weight));
+    let (_, maker) = MAKERS[chosen];
+    maker(&mut random)
+}
+
+fn made(story: &Story, kind: &'static str) -> Made {
+    Made {
+        bytes: story.draft.bytes(),
+        kind,
+    }
+}
+
+fn deep(random: &mut Random) -> Made {
+    made(&story::story(random), "deep")
+}
+
+fn full(random: &mut Random) -> Made {
+    match story::full_story(random, 20) {
+        Some(story) => made(&story, "full of operations"),
+        None => deep(random),
+    }
+}
+
+fn strayed(random: &mut Random) -> Made {
+    made(&story::strayed_story(random), "strayed")
+}
+
+fn aimed(random: &mut Random) -> Made {
+    const AIMS: [(usize, u8, &str); 11] = [
+        (1, 8, "aimed at 8"),
+        (1, 9, "aimed at 9"),
+        (1, 10, "aimed at 10"),
+        (1, 11, "aimed at 11"),
+        (1, 12, "aimed at 12"),
+        (4, 13, "aimed at 13"),
+        (2, 14, "aimed at 14"),
+        (2, 15, "aimed at 15"),
+        (2, 16, "aimed at 16"),
+        (1, 17, "aimed at 17"),
+        (1, 18, "aimed at 18"),
+    ];
+    let chosen = random.weighted(AIMS.iter().map(|(weight, ..)| *weight));
+    let (_, number, kind) = AIMS[chosen];
+    match aim::story_aimed_at(random, number) {
+        Some(story) => made(&story, kind),
+        None => deep(random),
+    }
+}
+
+/// Tables without anything in them, and no event.
+fn shortest(_: &mut Random) -> Made {
+    Made {
+        bytes: vec![1, 0, 0, 0, 0],
+        kind: "shortest",
+    }
+}
+
+/// The list of fields with the index among those of the seed, to try writing
+/// with.
+pub fn field_list(seed: u64, index: u64) -> Vec<u16> {
+    // Lists are drawn apart from the books of the same seed.
+    let mut random = Random::new(!seed, index);
+    if index % LONG_ONES == LONG_ONES - 1 {
+        return long_list(&mut random);
+    }
+    let mut fields = good_fields(&mut random);
+    match random.below(10) {
+        0..=3 => {}
+        4 | 5 => change_field(&mut random, &mut fields),
+        6 => fields.truncate(random.below(fields.len())),
+        7 => append_fields(&mut random, &mut fields),
+        8 => fields = noise_fields(&mut random),
+        _ => {
+            let place = random.below(fields.len());
+            fields[place] = random.pick(&[128, 255, 256, 16_383, 16_384, 65_534, u16::MAX]);
+        }
+    }
+    fields
+}
+
+fn good_fields(random: &mut Random) -> Vec<u16> {
+    let story = match random.below(12) {
+        0 => story::full_story(random, 20),
+        1..=4 => {
+            let number = random.within(8..=18) as u8;
+            aim::story_aimed_at(random, number)
+        }
+        _ => None,
+    };
+    match story {
+        Some(story) => story.draft.fields(),
+        None => story::story(random).draft.fields(),
+    }
+}
+
+fn change_field(random: &mut Random, fields: &mut [u16]) {
+    let place = random.below(fields.len());
+    fields[place] = match random.below(4) {
+        0 => fields[place].wrapping_add(1),
+        1 => fields[place].wrapping_sub(1),
+        2 => random.below(8) as u16,
+        _ => random.field(),
+    };
+}
+
+fn append_fields(random: &mut Random, fields: &mut Vec<u16>) {
+    for _ in 0..random.within(1..=6) {
+        fields.push(random.below(7) as u16);
+    }
+}
+
+fn noise_fields(random: &mut Random) -> Vec<u16> {
+    let limit = random.pick(&[6, 70, 65_536]);
+    let length = random.within(0..=120);
+    let mut fields: Vec<u16> = (0..length).map(|_| random.below(limit) as u16).collect();
+    if random.one_in(2) {
+        fields.insert(0, 1);
+    }
+    fields
+}
+
+/// A list whose bytes come to 65,536, or to more.
+fn long_list(random: &mut Random) -> Vec<u16> {
+    let length = random.pick(&[65_536, 65_537, 65_538, 70_000]);
+    if random.one_in(2) {
+        return noise::fields_handed_to_and_fro(length);
+    }
+    let mut fields = vec![1];
+    let mut bytes = 1;
+    while bytes < length {
+        let field = random.field();
+        bytes += encode_field(field).len();
+        fields.push(field);
+    }
+    fields
+}
+
+#[cfg(test)]
+mod tests {
+    use super::*;
+    use crate::draft::encode;
+    use std::collections::HashMap;
+
+    const BOOKS: u64 = 3000;
+
+    #[test]
+    fn the_same_seed_makes_the_same() {
+        for index in (0..300).chain([499, 999]) {
+            assert_eq!(book(7, index), book(7, index));
+            assert_eq!(field_list(7, index), field_list(7, index));
+        }
+    }
+
+    #[test]
+    fn other_seeds_and_indexes_make_others() {
+        let books = |seed| (0..50).map(|index| book(seed, index)).collect::<Vec<_>>();
+        let lists = |seed| {
+            (0..50)
+                .map(|index| field_list(seed, index))
+                .collect::<Vec<_>>()
+        };
+        assert_ne!(books(1), books(2));
+        assert_ne!(lists(1), lists(2));
+        let mut of_one_seed = books(1);
+        of_one_seed.sort_by(|a, b| a.bytes.cmp(&b.bytes));
+        of_one_seed.dedup();
+        assert!(of_one_seed.len() > 40);
+    }
+
+    /// What reading is to come to, for the kinds of which that is known.
+    fn meant_number(kind: &str) -> Option<u8> {
+        let before_colon = kind.split([':', ',']).next().unwrap_or_default();
+        match before_colon {
+            "deep" | "full of operations" | "torn between events" | "shortest" => Some(0),
+            "empty" | "torn in the tables" | "torn inside a number" => Some(2),
+            "torn between fields" | "torn after an event code" => Some(2),
+            "too long" => Some(1),
+            "number in a bad form" | "value above 65" => Some(3),
+            "bad edition" => Some(4),
+            "saga of no steps" | "saga of too many steps" | "bad number of sagas" => Some(5),
+            "bad number of plain ones" | "bad number of objects" => Some(5),
+            "bad number of dependencies" => Some(5),
+            "too many transactions at a saga" => Some(5),
+            "too many transactions at the plain ones" => Some(5),
+            "dependency" => Some(6),
+            "bad event code" => Some(7),
+            aimed => aimed.strip_prefix("aimed at ")?.parse().ok(),
+        }
+    }
+
+    #[test]
+    fn books_are_read_as_they_are_meant() {
+        for index in 0..BOOKS {
+            let made = book(3, index);
+            if let Some(number) = meant_number(made.kind) {
+                let reading = second::read(&made.bytes);
+                assert_eq!(reading.number, number, "{} {index}", made.kind);
+            }
+        }
+    }
+
+    #[test]
+    fn every_kind_comes_up() {
+        let mut kinds: HashMap<&str, usize> = HashMap::new();
+        for index in 0..BOOKS {
+            *kinds.entry(book(4, index).kind).or_default() += 1;
+        }
+        let of_long_ones = |kind: &str| kind.starts_with("too long") || kind.starts_with("longest");
+        let known = kinds.keys().filter(|kind| !of_long_ones(kind)).count();
+        assert_eq!(known, 56);
+    }
+
+    #[test]
+    fn long_books_have_the_lengths_meant() {
+        for seed in 0..20 {
+            assert!(book(seed, 499).bytes.len() > 65_536);
+            assert_eq!(book(seed, 999).bytes.len(), 65_536);
+        }
+    }
+
+    #[test]
+    fn field_lists_are_written_and_refused_in_many_ways() {
+        let mut numbers = [0; 20];
+        let mut room = vec![0; 65_536];
+        for index in 0..BOOKS {
+            let written = second::write(&field_list(5, index), &mut room);
+            let number = written.map_or_else(|refused| refused.number, |_| 0);
+            numbers[usize::from(number)] += 1;
+        }
+        // Writing knows no 3, and the room is never too small here.
+        for number in (0..19).filter(|number| *number != 3) {
+            assert!(numbers[number] > 0, "{number}");
+        }
+    }
+
+    #[test]
+    fn writing_answers_as_reading_does() {
+        for index in 0..BOOKS {
+            let fields = field_list(6, index);
+            let bytes = encode(&fields);
+            let reading = second::read(&bytes);
+            let mut room = vec![0; 65_536];
+            match second::write(&fields, &mut room) {
+                Ok(count) => {
+                    assert_eq!(reading.number, 0);
+                    assert_eq!(room[..count], bytes);
+                }
+                Err(refused) => {
+                    assert_eq!(refused.number, reading.number);
+                    assert_eq!(refused.events, reading.events);
+                    assert_eq!(encode(&fields[..refused.place]).len(), reading.place);
+                }
+            }
+        }
+    }
+
+    #[test]
+    fn openings_are_accepted_and_unpacked_fields_written_back() {
+        let mut fields = vec![0; 65_536];
+        let mut bytes = vec![0; 65_536];
+        for index in 0..BOOKS {
+            let made = book(8, index);
+            let reading = second::read(&made.bytes);
+            let opening = second::opening(&made.bytes);
+            if opening.is_empty() {
+                assert!(reading.number != 0 && reading.events == 0);
+                continue;
+            }
+            let again = second::read(opening);
+            assert_eq!((again.number, again.events), (0, reading.events));
+            let count = second::unpack(opening, &mut fields).unwrap();
+            let written = second::write(&fields[..count], &mut bytes).unwrap();
+            assert_eq!(&bytes[..written], opening);
+        }
+    }
+}

@@ -1,0 +1,13 @@
+//! Makes saga books of every kind, good and bad, from a seed, so that programs
+//! that read books can be run on the same ones and compared.
+
+mod aim;
+pub mod books;
+pub mod counts;
+mod damage;
+mod draft;
+mod model;
+mod noise;
+mod random;
+mod story;
+mod tables;

@@ -1,0 +1,432 @@
+//! A plain and slow picture of the rules. It is there so that the books made
+//! go deep; it decides nothing about the programs that are compared.
+
+use crate::draft::{Event, Tables};
+
+#[derive(Clone, Copy, Debug, PartialEq, Eq)]
+pub enum Sort {
+    Saga { steps: usize },
+    Step { saga: usize, i: usize },
+    Undo { saga: usize, steps: usize, i: usize },
+    Plain,
+}
+
+impl Sort {
+    fn name(self) -> &'static str {
+        match self {
+            Sort::Saga { .. } => "saga",
+            Sort::Step { .. } => "step",
+            Sort::Undo { .. } => "undo",
+            Sort::Plain => "plain",
+        }
+    }
+}
+
+#[derive(Clone, Copy, Debug, PartialEq, Eq)]
+pub enum Phase {
+    Idle,
+    Active,
+    Committed,
+    Aborted,
+}
+
+/// One thing the rules look at.
+#[derive(Clone, Copy, Debug, PartialEq, Eq)]
+pub enum Circumstance {
+    /// A transaction of this sort.
+    Of(&'static str),
+    /// A transaction or an operation in this phase.
+    In(Phase),
+    /// The phase of the base and the kind of a dependency that bars.
+    Entry(Phase, u16),
+    /// Whether a ring closes among transactions that aren't committed.
+    Ring(bool),
+}
+
+#[derive(Clone, Debug)]
+pub struct Operation {
+    object: u16,
+    writes: bool,
+    pub responsible: usize,
+    /// The earlier operations it is tied to.
+    tied: Vec<usize>,
+}
+
+#[derive(Clone, Debug)]
+pub struct Model {
+    sorts: Vec<Sort>,
+    phases: Vec<Phase>,
+    pub objects: u16,
+    dependencies: Vec<[u16; 3]>,
+    pub operations: Vec<Operation>,
+}
+
+impl Model {
+    pub fn new(tables: &Tables) -> Model {
+        let mut sorts = Vec::new();
+        for steps in tables.steps.iter().map(|steps| usize::from(*steps)) {
+            let saga = sorts.len();
+            sorts.push(Sort::Saga { steps });
+            sorts.extend((1..=steps).map(|i| Sort::Step { saga, i }));
+            sorts.extend((1..steps).map(|i| Sort::Undo { saga, steps, i }));
+        }
+        sorts.extend((0..tables.plain).map(|_| Sort::Plain));
+        Model {
+            phases: vec![Phase::Idle; sorts.len()],
+            sorts,
+            objects: tables.objects,
+            dependencies: tables.dependencies.clone(),
+            operations: Vec::new(),
+        }
+    }
+
+    pub fn transactions(&self) -> usize {
+        self.sorts.len()
+    }
+
+    pub fn phase(&self, t: usize) -> Phase {
+        self.phases[t]
+    }
+
+    /// The transaction S and the number of steps of each saga.
+    pub fn sagas(&self) -> Vec<(usize, usize)> {
+        let numbered = self.sorts.iter().enumerate();
+        numbered
+            .filter_map(|(t, sort)| match sort {
+                Sort::Saga { steps } => Some((t, *steps)),
+                _ => None,
+            })
+            .collect()
+    }
+
+    pub fn in_phase(&self, phase: Phase) -> Vec<usize> {
+        let all = 0..self.transactions();
+        all.filter(|t| self.phases[*t] == phase).collect()
+    }
+
+    /// The active transactions that may invoke operations.
+    pub fn active_operating(&self) -> Vec<usize> {
+        let mut active = self.in_phase(Phase::Active);
+        active.retain(|t| !matches!(self.sorts[*t], Sort::Saga { .. }));
+        active
+    }
+
+    /// The active transactions that may give and receive operations.
+    pub fn active_delegating(&self) -> Vec<usize> {
+        let mut active = self.in_phase(Phase::Active);
+        active.retain(|t| self.delegates(*t));
+        active
+    }
+
+    fn delegates(&self, t: usize) -> bool {
+        matches!(self.sorts[t], Sort::Plain | Sort::Step { .. })
+    }
+
+    /// The number an event is likely to be refused by, 0 if none.
+    pub fn verdict(&self, event: Event) -> u8 {
+        if !self.is_known(event) {
+            return 8;
+        }
+        match event {
+            Event::Begin(t) => self.verdict_on_begin(t.into()),
+            Event::Commit(t) => self.verdict_on_commit(t.into()),
+            Event::Abort(t) => self.verdict_on_abort(t.into()),
+            Event::Operation(t, object, mark) => {
+                self.verdict_on_operation(t.into(), object, mark == 1)
+            }
+            Event::Delegate(giver, receiver, operation) => {
+                self.verdict_on_delegation(giver.into(), receiver.into(), operation.into())
+            }
+        }
+    }
+
+    fn is_known(&self, event: Event) -> bool {
+        let transaction = |t: u16| usize::from(t) < self.transactions();
+        match event {
+            Event::Begin(t) | Event::Commit(t) | Event::Abort(t) => transaction(t),
+            Event::Operation(t, object, mark) => {
+                transaction(t) && object < self.objects && mark < 2
+            }
+            Event::Delegate(giver, receiver, operation) => {
+                let accepted = usize::from(operation) < self.operations.len();
+                transaction(giver) && transaction(receiver) && accepted
+            }
+        }
+    }
+
+    fn verdict_on_begin(&self, t: usize) -> u8 {
+        if self.phases[t] != Phase::Idle {
+            10
+        } else if self.broken_saga_rules(Event::Begin(t as u16)) > 0 {
+            13
+        } else if self.entries_of(t).any(bars_begin) {
+            14
+        } else {
+            0
+        }
+    }
+
+    fn verdict_on_commit(&self, t: usize) -> u8 {
+        if self.phases[t] != Phase::Active {
+            11
+        } else if self.broken_saga_rules(Event::Commit(t as u16)) > 0 {
+            13
+        } else if self.entries_of(t).any(bars_commit) {
+            14
+        } else if self.unsettled_writes_read_by(t).next().is_some() {
+            15
+        } else if self.is_on_a_ring(t) {
+            16
+        } else {
+            0
+        }
+    }
+
+    fn verdict_on_abort(&self, t: usize) -> u8 {
+        if let Sort::Undo { .. } = self.sorts[t] {
+            9
+        } else if self.phases[t] != Phase::Active {
+            11
+        } else if self.broken_saga_rules(Event::Abort(t as u16)) > 0 {
+            13
+        } else {
+            0
+        }
+    }
+
+    /// How many of the saga's conditions on an event of a known transaction
+    /// don't hold.
+    pub fn broken_saga_rules(&self, event: Event) -> usize {
+        let is = |t: usize, phase: Phase| self.phases[t] == phase;
+        let conditions = match event {
+            Event::Begin(t) => match (usize::from(t), self.sorts[usize::from(t)]) {
+                (t, Sort::Step { saga, i }) => vec![
+                    is(saga, Phase::Active),
+                    i == 1 || is(t - 1, Phase::Committed),
+                ],
+                (t, Sort::Undo { saga, steps, i }) => vec![
+                    is(saga, Phase::Aborted),
+                    is(saga + i, Phase::Committed),
+                    !is(saga + i + 1, Phase::Active),
+                    !is(saga + i + 1, Phase::Committed)
+                        || (i + 1 < steps && is(t + 1, Phase::Committed)),
+                ],
+                _ => Vec::new(),
+            },
+            Event::Commit(t) => match (usize::from(t), self.sorts[usize::from(t)]) {
+                (t, Sort::Saga { steps }) => vec![is(t + steps, Phase::Committed)],
+                (_, Sort::Step { saga, .. }) => vec![is(saga, Phase::Active)],
+                _ => Vec::new(),
+            },
+            Event::Abort(t) => match (usize::from(t), self.sorts[usize::from(t)]) {
+                (t, Sort::Saga { steps }) => vec![!is(t + steps, Phase::Committed)],
+                _ => Vec::new(),
+            },
+            Event::Operation(..) | Event::Delegate(..) => Vec::new(),
+        };
+        conditions.iter().filter(|holds| !**holds).count()
+    }
+
+    fn verdict_on_operation(&self, t: usize, object: u16, writes: bool) -> u8 {
+        if let Sort::Saga { .. } = self.sorts[t] {
+            return 9;
+        }
+        if self.phases[t] != Phase::Active {
+            return 11;
+        }
+        let is_undo = matches!(self.sorts[t], Sort::Undo { .. });
+        let mut conflicts = self.active_conflicts(object, writes);
+        if is_undo && conflicts.any(|p| self.operations[p].responsible != t) {
+            17
+        } else if self.operations.len() == 256 {
+            18
+        } else {
+            0
+        }
+    }
+
+    fn verdict_on_delegation(&self, giver: usize, receiver: usize, operation: usize) -> u8 {
+        if giver == receiver || !self.delegates(giver) || !self.delegates(receiver) {
+            9
+        } else if self.phases[giver] != Phase::Active || self.phases[receiver] != Phase::Active {
+            11
+        } else if self.operations[operation].responsible != giver {
+            12
+        } else {
+            0
+        }
+    }
+
+    /// The phase of the base and the kind of each entry of a dependent.
+    fn entries_of(&self, dependent: usize) -> impl Iterator<Item = (Phase, u16)> + '_ {
+        self.dependencies
+            .iter()
+            .filter(move |[d, _, _]| usize::from(*d) == dependent)
+            .map(|[_, base, kind]| (self.phases[usize::from(*base)], *kind))
+    }
+
+    /// An operation stands as the transaction that answers for it.
+    fn operation_phase(&self, operation: usize) -> Phase {
+        self.phases[self.operations[operation].responsible]
+    }
+
+    fn active_conflicts(&self, object: u16, writes: bool) -> impl Iterator<Item = usize> + '_ {
+        (0..self.operations.len()).filter(move |p| {
+            let earlier = &self.operations[*p];
+            earlier.object == object
+                && (earlier.writes || writes)
+                && self.operation_phase(*p) == Phase::Active
+        })
+    }
+
+    /// The writes tied before a read of `t` that are neither committed nor its own.
+    fn unsettled_writes_read_by(&self, t: usize) -> impl Iterator<Item = usize> + '_ {
+        let own_reads = self
+            .operations
+            .iter()
+            .filter(move |operation| operation.responsible == t && !operation.writes);
+        let writes = own_reads.flat_map(|read| read.tied.iter().copied());
+        writes.filter(move |p| {
+            self.operation_phase(*p) != Phase::Committed && self.operations[*p].responsible != t
+        })
+    }
+
+    fn is_on_a_ring(&self, t: usize) -> bool {
+        leads_back(&self.pairs(), t)
+    }
+
+    /// Whether there is a ring even without the committed transactions.
+    fn is_on_a_ring_of_active_ones(&self, t: usize) -> bool {
+        let mut pairs = self.pairs();
+        for committed in self.in_phase(Phase::Committed) {
+            pairs[committed] = 0;
+        }
+        leads_back(&pairs, t)
+    }
+
+    /// What the rules look at when they judge an event. It tells apart the
+    /// ways in which one number comes about, so that all of them can be had.
+    pub fn circumstances(&self, event: Event) -> Vec<Circumstance> {
+        use Circumstance::*;
+        if !self.is_known(event) {
+            return Vec::new();
+        }
+        match event {
+            Event::Begin(t) => {
+                let t = usize::from(t);
+                let barring = self.entries_of(t).find(|entry| bars_begin(*entry));
+                let entry = barring.map(|(base, kind)| Entry(base, kind));
+                [self.around(t), entry.into_iter().collect()].concat()
+            }
+            Event::Commit(t) => {
+                let t = usize::from(t);
+                let barring = self.entries_of(t).find(|entry| bars_commit(*entry));
+                let entry = barring.map(|(base, kind)| Entry(base, kind));
+                let write = self.unsettled_writes_read_by(t).next();
+                let unsettled = write.map(|write| In(self.operation_phase(write)));
+                let ring = Ring(self.is_on_a_ring_of_active_ones(t));
+                let on_commit = entry.into_iter().chain(unsettled).chain([ring]);
+                [self.around(t), on_commit.collect()].concat()
+            }
+            Event::Abort(t) => self.around(usize::from(t)),
+            Event::Operation(t, ..) => vec![Of(self.sorts[usize::from(t)].name())],
+            Event::Delegate(giver, receiver, _) => [giver, receiver]
+                .into_iter()
+                .flat_map(|t| {
+                    let t = usize::from(t);
+                    [Of(self.sorts[t].name()), In(self.phases[t])]
+                })
+                .collect(),
+        }
+    }
+
+    /// The sort of a transaction and the phases its saga's rules look at.
+    fn around(&self, t: usize) -> Vec<Circumstance> {
+        let mut looked_at = match self.sorts[t] {
+            Sort::Saga { steps } => vec![t + steps],
+            Sort::Step { saga, .. } => vec![saga, t - 1],
+            Sort::Undo { saga, steps, i } if i + 1 < steps => {
+                vec![saga, saga + i, saga + i + 1, t + 1]
+            }
+            Sort::Undo { saga, i, .. } => vec![saga, saga + i, saga + i + 1],
+            Sort::Plain => Vec::new(),
+        };
+        looked_at.push(t);
+        let phases = looked_at.iter().map(|t| Circumstance::In(self.phases[*t]));
+        let sort = Circumstance::Of(self.sorts[t].name());
+        [sort].into_iter().chain(phases).collect()
+    }
+
+    /// Bit b of row a: a stands before b by one tie.
+    pub fn pairs(&self) -> [u64; 64] {
+        let mut pairs = [0; 64];
+        for (q, later) in self.operations.iter().enumerate() {
+            if self.operation_phase(q) == Phase::Aborted {
+                continue;
+            }
+            for p in &later.tied {
+                let earlier = self.operations[*p].responsible;
+                if earlier != later.responsible && self.operation_phase(*p) != Phase::Aborted {
+                    pairs[earlier] |= 1 << later.responsible;
+                }
+            }
+        }
+        pairs
+    }
+
+    /// Takes in an event with the verdict 0.
+    pub fn take(&mut self, event: Event) {
+        match event {
+            Event::Begin(t) => self.phases[usize::from(t)] = Phase::Active,
+            Event::Commit(t) => self.phases[usize::from(t)] = Phase::Committed,
+            Event::Abort(t) => self.phases[usize::from(t)] = Phase::Aborted,
+            Event::Operation(t, object, mark) => {
+                let writes = mark == 1;
+                let tied = self.active_conflicts(object, writes).collect();
+                self.operations.push(Operation {
+                    object,
+                    writes,
+                    responsible: t.into(),
+                    tied,
+                });
+            }
+            Event::Delegate(_, receiver, operation) => {
+                self.operations[usize::from(operation)].responsible = receiver.into();
+            }
+        }
+    }
+}
+
+/// Whether a dependency of a kind bars a begin, given the phase of its base.
+fn bars_begin((base, kind): (Phase, u16)) -> bool {
+    match kind {
+        4 => base == Phase::Idle,
+        5 => base == Phase::Idle || base == Phase::Active,
+        6 => base != Phase::Committed,
+        7 => base != Phase::Aborted,
+        _ => false,
+    }
+}
+
+/// Whether a dependency of a kind bars a commit, given the phase of its base.
+fn bars_commit((base, kind): (Phase, u16)) -> bool {
+    match kind {
+        1 => base == Phase::Idle || base == Phase::Active,
+        2 => base != Phase::Committed,
+        3 => base == Phase::Aborted,
+        _ => false,
+    }
+}
+
+/// Whether following the pairs leads from `t` back to it.
+fn leads_back(pairs: &[u64; 64], t: usize) -> bool {
+    let mut reached = pairs[t];
+    loop {
+        let rows = (0..64).filter(|a| reached >> a & 1 == 1);
+        let further = rows.fold(reached, |all, a| all | pairs[a]);
+        if further == reached {
+            return reached >> t & 1 == 1;
+        }
+        reached = further;
+    }
+}

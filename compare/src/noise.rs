@@ -1,0 +1,122 @@
+//! Books that are hardly books: noise, nothing at all, and the longest.
+
+use crate::books::Made;
+use crate::draft::{encode, Tables};
+use crate::random::Random;
+use crate::tables::good_tables;
+
+const MOST_BYTES: usize = 65_536;
+
+fn noise_bytes(random: &mut Random, length: usize) -> Vec<u8> {
+    let small = random.one_in(2);
+    (0..length)
+        .map(|_| match small {
+            true => random.below(6) as u8,
+            false => random.byte(),
+        })
+        .collect()
+}
+
+/// Noise, alone or after a good beginning.
+pub fn noise(random: &mut Random) -> Made {
+    let length = random.within(0..=200);
+    let tail = noise_bytes(random, length);
+    let (start, kind) = match random.below(3) {
+        0 => (Vec::new(), "noise"),
+        1 => (vec![1], "noise after a good edition"),
+        _ => (
+            encode(&good_tables(random).fields()),
+            "noise after good tables",
+        ),
+    };
+    Made {
+        bytes: [start, tail].concat(),
+        kind,
+    }
+}
+
+pub fn empty(_: &mut Random) -> Made {
+    Made {
+        bytes: Vec::new(),
+        kind: "empty",
+    }
+}
+
+/// A book of exactly 65,536 bytes.
+pub fn longest(random: &mut Random) -> Made {
+    let (bytes, kind) = match random.below(4) {
+        0 => (handed_to_and_fro(MOST_BYTES), "longest, accepted"),
+        1 => {
+            let object_of_two_bytes = [4, 0, 0x80, 0x01];
+            let mut bytes = handed_to_and_fro(MOST_BYTES - object_of_two_bytes.len());
+            bytes.extend(object_of_two_bytes);
+            (bytes, "longest, a field missing")
+        }
+        _ => long_bytes(random, MOST_BYTES, "longest, noise"),
+    };
+    Made { bytes, kind }
+}
+
+/// A book of 65,537 bytes, or somewhat more.
+pub fn too_long(random: &mut Random) -> Made {
+    let length = MOST_BYTES + pick_excess(random);
+    let (bytes, kind) = match random.below(2) {
+        0 => (handed_to_and_fro(length), "too long, good to the end"),
+        _ => long_bytes(random, length, "too long, noise"),
+    };
+    Made { bytes, kind }
+}
+
+fn pick_excess(random: &mut Random) -> usize {
+    match random.below(4) {
+        0 => random.within(2..=3000),
+        _ => 1,
+    }
+}
+
+/// A good edition and noise, or tables and one event over and over.
+fn long_bytes(random: &mut Random, length: usize, kind: &'static str) -> (Vec<u8>, &'static str) {
+    let bytes = if random.one_in(2) {
+        [vec![1], noise_bytes(random, length - 1)].concat()
+    } else {
+        let mut bytes = encode(&good_tables(random).fields());
+        let event = [random.within(1..=3) as u8, random.below(4) as u8];
+        bytes.extend(event.into_iter().cycle().take(length - bytes.len()));
+        bytes
+    };
+    (bytes, kind)
+}
+
+/// A good book of exactly so many bytes, padded with delegations: two plain
+/// transactions hand operations to and fro. Handing operation 128 takes 5
+/// bytes, operation 0 takes 4, so every length can be met.
+pub fn handed_to_and_fro(length: usize) -> Vec<u8> {
+    encode(&fields_handed_to_and_fro(length))
+}
+
+/// The fields of that book.
+pub fn fields_handed_to_and_fro(length: usize) -> Vec<u16> {
+    let tables = Tables {
+        plain: 2,
+        objects: 1,
+        ..Tables::default()
+    };
+    let mut fields = tables.fields();
+    fields.extend([1, 0, 1, 1]);
+    for _ in 0..129 {
+        fields.extend([4, 0, 0, 0]);
+    }
+    let room = length - fields.len();
+    let of_five_bytes = room % 4;
+    let of_four_bytes = (room - 5 * of_five_bytes) / 4;
+    hand_over(&mut fields, 128, of_five_bytes);
+    hand_over(&mut fields, 0, of_four_bytes);
+    fields
+}
+
+fn hand_over(fields: &mut Vec<u16>, operation: u16, times: usize) {
+    for time in 0..times {
+        let giver = (time % 2) as u16;
+        fields.extend([5, giver, 1 - giver, operation]);
+    }
+}

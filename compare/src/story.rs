@@ -1,0 +1,401 @@
+//! Books that go deep: events that are mostly acceptable, one after another.
+
+use crate::draft::{Draft, Event, Tables};
+use crate::model::{Model, Phase};
+use crate::random::Random;
+use crate::tables::{good_tables, tables_for};
+
+/// How often each sort of event is tried.
+#[derive(Clone, Copy)]
+struct Mood {
+    begin: usize,
+    commit: usize,
+    abort: usize,
+    operate: usize,
+    delegate: usize,
+    /// Events that move a saga on.
+    saga: usize,
+}
+
+const EVEN: Mood = Mood {
+    begin: 6,
+    commit: 2,
+    abort: 1,
+    operate: 20,
+    delegate: 6,
+    saga: 5,
+};
+const WORKING: Mood = Mood {
+    operate: 40,
+    abort: 0,
+    ..EVEN
+};
+const HANDING_ON: Mood = Mood {
+    delegate: 25,
+    abort: 0,
+    ..EVEN
+};
+const FAILING: Mood = Mood {
+    commit: 1,
+    abort: 3,
+    ..EVEN
+};
+const SETTLING: Mood = Mood {
+    begin: 10,
+    commit: 6,
+    operate: 12,
+    ..EVEN
+};
+const MOVING_SAGAS: Mood = Mood {
+    begin: 3,
+    commit: 1,
+    abort: 0,
+    operate: 8,
+    delegate: 3,
+    saga: 30,
+};
+const MOODS: [Mood; 6] = [EVEN, WORKING, HANDING_ON, FAILING, SETTLING, MOVING_SAGAS];
+const FILLING: Mood = Mood {
+    begin: 20,
+    operate: 400,
+    delegate: 10,
+    ..EVEN
+};
+
+/// How many draws until an acceptable event is given up.
+const DRAWS: usize = 30;
+const MOST_OPERATIONS: usize = 256;
+
+/// A draft, and the state its events have likely led to.
+pub struct Story {
+    pub draft: Draft,
+    pub model: Model,
+}
+
+impl Story {
+    pub fn new(tables: Tables) -> Story {
+        Story {
+            model: Model::new(&tables),
+            draft: Draft {
+                tables,
+                events: Vec::new(),
+            },
+        }
+    }
+
+    /// Goes on by about so many acceptable events.
+    pub fn go_on(&mut self, random: &mut Random, events: usize) {
+        let mut left = events;
+        while left > 0 {
+            let stretch = left.min(random.within(3..=30));
+            let mood = random.pick(&MOODS);
+            for _ in 0..stretch {
+                self.go_on_once(random, mood);
+            }
+            left -= stretch;
+        }
+    }
+
+    /// Goes on by about so many events, most of them moving sagas on.
+    pub fn move_sagas(&mut self, random: &mut Random, events: usize) {
+        for _ in 0..events {
+            self.go_on_once(random, MOVING_SAGAS);
+        }
+    }
+
+    /// Goes on by one acceptable event, if one is found.
+    fn go_on_once(&mut self, random: &mut Random, mood: Mood) -> bool {
+        let mut draws = (0..DRAWS).filter_map(|_| draw_event(random, &self.model, mood));
+        let drawn = draws.find(|event| self.model.verdict(*event) == 0);
+        drawn.is_some_and(|event| self.go_on_with(event))
+    }
+
+    /// Goes on with this event if it is acceptable; false if it isn't.
+    pub fn go_on_with(&mut self, event: Event) -> bool {
+        let acceptable = self.model.verdict(event) == 0;
+        if acceptable {
+            self.model.take(event);
+            self.draft.events.push(event);
+        }
+        acceptable
+    }
+
+    /// Goes on until 256 operations are accepted; false if it doesn't come to that.
+    pub fn fill_up(&mut self, random: &mut Random) -> bool {
+        while self.model.operations.len() < MOST_OPERATIONS {
+            if !self.go_on_once(random, FILLING) {
+                return false;
+            }
+        }
+        true
+    }
+
+    /// Adds an event whatever becomes of it.
+    pub fn stray(&mut self, random: &mut Random) {
+        let code = random.within(1..=5);
+        let event = wild_event(random, &self.model, code);
+        if !self.go_on_with(event) {
+            self.draft.events.push(event);
+        }
+    }
+}
+
+/// An event of a likely sort by likely transactions; none if there are none.
+fn draw_event(random: &mut Random, model: &Model, mood: Mood) -> Option<Event> {
+    let weights = [
+        mood.begin,
+        mood.commit,
+        mood.abort,
+        mood.operate,
+        mood.delegate,
+        mood.saga,
+    ];
+    let operating = model.active_operating();
+    let sort = if operating.len() < 2 && random.one_in(2) {
+        0
+    } else {
+        random.weighted(weights.into_iter())
+    };
+    match sort {
+        0 => draw(random, &model.in_phase(Phase::Idle)).map(Event::Begin),
+        1 => draw(random, &model.in_phase(Phase::Active)).map(Event::Commit),
+        2 => draw(random, &model.in_phase(Phase::Active)).map(Event::Abort),
+        3 => {
+            let t = draw(random, &operating)?;
+            let objects: Vec<usize> = (0..model.objects.into()).collect();
+            let object = draw(random, &objects)?;
+            Some(Event::Operation(t, object, random.below(2) as u16))
+        }
+        4 => {
+            let operations: Vec<usize> = (0..model.operations.len()).collect();
+            let operation = draw(random, &operations)?;
+            let giver = model.operations[usize::from(operation)].responsible;
+            let receiver = draw(random, &model.active_delegating())?;
+            Some(Event::Delegate(giver as u16, receiver, operation))
+        }
+        _ => draw_saga_event(random, model),
+    }
+}
+
+/// An event that moves some saga on, forth or back; none if it has come to its end.
+fn draw_saga_event(random: &mut Random, model: &Model) -> Option<Event> {
+    let sagas = model.sagas();
+    if sagas.is_empty() {
+        return None;
+    }
+    let (saga, steps) = random.pick(&sagas);
+    match model.phase(saga) {
+        Phase::Idle => Some(Event::Begin(saga as u16)),
+        Phase::Active => Some(forth(random, model, saga, steps)),
+        Phase::Aborted => back(model, saga, steps),
+        Phase::Committed => None,
+    }
+}
+
+/// The next event of an active saga on its way to the end, or its abort, which
+/// is the more likely when there is something to undo.
+fn forth(random: &mut Random, model: &Model, saga: usize, steps: usize) -> Event {
+    let something_done = model.phase(saga + 1) == Phase::Committed;
+    if random.one_in(if something_done { 6 } else { 20 }) {
+        return Event::Abort(saga as u16);
+    }
+    let mut all_steps = saga + 1..=saga + steps;
+    let next = all_steps.find(|step| model.phase(*step) != Phase::Committed);
+    match next.map(|step| (step as u16, model.phase(step))) {
+        None => Event::Commit(saga as u16),
+        Some((step, Phase::Idle)) => Event::Begin(step),
+        Some((step, Phase::Active)) if random.one_in(20) => Event::Abort(step),
+        Some((step, Phase::Active)) => Event::Commit(step),
+        Some(_) => Event::Abort(saga as u16),
+    }
+}
+
+/// The next event of an aborted saga on its way back; none if it is undone.
+fn back(model: &Model, saga: usize, steps: usize) -> Option<Event> {
+    let mut all_steps = saga + 1..=saga + steps;
+    if let Some(step) = all_steps.find(|step| model.phase(*step) == Phase::Active) {
+        return Some(Event::Abort(step as u16));
+    }
+    let undo = (1..steps)
+        .rev()
+        .filter(|i| model.phase(saga + i) == Phase::Committed)
+        .map(|i| saga + steps + i)
+        .find(|undo| model.phase(*undo) != Phase::Committed)?;
+    Some(match model.phase(undo) {
+        Phase::Active => Event::Commit(undo as u16),
+        _ => Event::Begin(undo as u16),
+    })
+}
+
+fn draw(random: &mut Random, from: &[usize]) -> Option<u16> {
+    (!from.is_empty()).then(|| random.pick(from) as u16)
+}
+
+/// An event of the sort with the code, its fields drawn at random, now and
+/// then from outside the tables.
+pub fn wild_event(random: &mut Random, model: &Model, code: usize) -> Event {
+    let transactions = model.transactions();
+    let mut transaction = || wild_field(random, transactions);
+    match code {
+        1 => Event::Begin(transaction()),
+        2 => Event::Commit(transaction()),
+        3 => Event::Abort(transaction()),
+        4 => Event::Operation(
+            transaction(),
+            wild_field(random, model.objects.into()),
+            wild_field(random, 2),
+        ),
+        _ => Event::Delegate(
+            transaction(),
+            transaction(),
+            wild_field(random, model.operations.len()),
+        ),
+    }
+}
+
+/// Mostly a number below the limit.
+fn wild_field(random: &mut Random, limit: usize) -> u16 {
+    if limit > 0 && !random.one_in(25) {
+        return random.below(limit) as u16;
+    }
+    let just_above = limit as u16;
+    let outside = [
+        just_above,
+        just_above + 1,
+        64,
+        127,
+        128,
+        256,
+        16_384,
+        u16::MAX,
+    ];
+    random.pick(&outside)
+}
+
+/// A story of ordinary length.
+pub fn story(random: &mut Random) -> Story {
+    let mut story = Story::new(good_tables(random));
+    let events = match random.below(15) {
+        0 => random.within(0..=4),
+        1 | 2 => random.within(100..=500),
+        _ => random.within(5..=120),
+    };
+    story.go_on(random, events);
+    story
+}
+
+/// A short story with at least one event.
+pub fn short_story(random: &mut Random) -> Story {
+    loop {
+        let mut story = Story::new(good_tables(random));
+        let events = random.within(1..=40);
+        story.go_on(random, events);
+        if !story.draft.events.is_empty() {
+            return story;
+        }
+    }
+}
+
+/// A story with 256 operations that goes on by up to so many events; none if
+/// it doesn't come to that.
+pub fn full_story(random: &mut Random, most_events: usize) -> Option<Story> {
+    let mut story = Story::new(tables_for(random, 18));
+    if !story.fill_up(random) {
+        return None;
+    }
+    let events = random.within(0..=most_events);
+    story.go_on(random, events);
+    Some(story)
+}
+
+/// A story in which acceptable and stray events are mixed.
+pub fn strayed_story(random: &mut Random) -> Story {
+    let mut story = story(random);
+    for _ in 0..random.within(1..=4) {
+        story.stray(random);
+        let events = random.within(0..=5);
+        story.go_on(random, events);
+    }
+    story
+}
+
+#[cfg(test)]
+mod tests {
+    use super::*;
+    use crate::draft::encode;
+
+    fn as_second_reads_it(event: Event) -> second::Event {
+        match event {
+            Event::Begin(transaction) => second::Event::Begin { transaction },
+            Event::Commit(transaction) => second::Event::Commit { transaction },
+            Event::Abort(transaction) => second::Event::Abort { transaction },
+            Event::Operation(transaction, object, mark) => second::Event::Operation {
+                transaction,
+                object,
+                mark,
+            },
+            Event::Delegate(giver, receiver, operation) => second::Event::Delegate {
+                giver,
+                receiver,
+                operation,
+            },
+        }
+    }
+
+    /// Walks through a story event by event, offers the model and the second
+    /// program others on the way, and compares what they say.
+    fn walk(random: &mut Random, story: &Story) {
+        let mut model = Model::new(&story.draft.tables);
+        let mut reading = second::read(&encode(&story.draft.tables.fields()));
+        for event in &story.draft.events {
+            for code in [1, 2, 2, 3, 4, 5] {
+                let other = wild_event(random, &model, code);
+                let mut state = reading.state.clone();
+                let answer = state.offer(&reading.tables, as_second_reads_it(other));
+                assert_eq!(answer.err().unwrap_or(0), model.verdict(other), "{other:?}");
+            }
+            let answer = reading
+                .state
+                .offer(&reading.tables, as_second_reads_it(*event));
+            assert_eq!(
+                answer.err().unwrap_or(0),
+                model.verdict(*event),
+                "{event:?}"
+            );
+            if answer.is_ok() {
+                model.take(*event);
+            }
+            assert_eq!(second::report(&reading).pairs, model.pairs());
+        }
+    }
+
+    #[test]
+    fn the_model_and_the_second_program_say_the_same() {
+        for index in 0..250 {
+            let random = &mut Random::new(11, index);
+            let story = strayed_story(random);
+            walk(random, &story);
+        }
+        let full = (0..3).filter_map(|index| full_story(&mut Random::new(12, index), 30));
+        for story in full {
+            walk(&mut Random::new(13, 0), &story);
+        }
+    }
+
+    #[test]
+    fn stories_go_deep() {
+        let stories: Vec<Story> = (0..200)
+            .map(|index| story(&mut Random::new(14, index)))
+            .collect();
+        let long = stories
+            .iter()
+            .filter(|story| story.draft.events.len() >= 30);
+        assert!(long.count() > 60);
+        let settled = stories.iter().filter(|story| {
+            let model = &story.model;
+            let mut sagas = model.sagas().into_iter().filter(|(_, steps)| *steps > 1);
+            sagas.any(|(saga, steps)| model.phase(saga + steps + 1) == Phase::Committed)
+        });
+        assert!(settled.count() > 10, "the first step is undone");
+    }
+}

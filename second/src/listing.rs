@@ -1,0 +1,80 @@
+//! The listing of a book, as the office reads it.
+
+use crate::closing::{closing, outstanding};
+use crate::event::{ABORT, BEGIN};
+use crate::refusal;
+use crate::state::{Mark, Phase};
+use crate::{read, Reading};
+
+/// The listing: whether the book is accepted, then the transactions, the
+/// operations and the sagas. After refused tables only the first line.
+pub fn listing(book: &[u8]) -> String {
+    let reading = read(book);
+    let transactions = 0..reading.tables.transactions();
+    let operations = 0..reading.state.operations();
+    let sagas = 0..reading.tables.sagas().len();
+    std::iter::once(book_line(&reading))
+        .chain(transactions.map(|number| transaction_line(&reading, number)))
+        .chain(operations.map(|number| operation_line(&reading, number)))
+        .chain(sagas.map(|index| saga_line(&reading, index)))
+        .collect()
+}
+
+fn book_line(reading: &Reading) -> String {
+    let Reading {
+        number,
+        events,
+        place,
+        ..
+    } = reading;
+    if *number == refusal::ACCEPTED {
+        format!("book accepted {events}\n")
+    } else {
+        format!("book refused {number} {events} {place}\n")
+    }
+}
+
+fn transaction_line(reading: &Reading, number: usize) -> String {
+    format!("t {number} {}\n", phase_word(reading.state.phase(number)))
+}
+
+fn operation_line(reading: &Reading, number: usize) -> String {
+    let state = &reading.state;
+    let mark = match state.mark(number) {
+        Mark::Read => "read",
+        Mark::Write => "write",
+    };
+    format!(
+        "op {number} {} {mark} {} {}\n",
+        state.object(number),
+        state.responsible(number),
+        phase_word(state.operation_phase(number))
+    )
+}
+
+fn saga_line(reading: &Reading, index: usize) -> String {
+    let owed = outstanding(reading, index);
+    match closing(reading, index) {
+        Some((code, transaction)) => {
+            format!("saga {index} {owed} {} {transaction}\n", step_word(code))
+        }
+        None => format!("saga {index} {owed} none\n"),
+    }
+}
+
+fn phase_word(phase: Phase) -> &'static str {
+    match phase {
+        Phase::Idle => "idle",
+        Phase::Active => "active",
+        Phase::Committed => "committed",
+        Phase::Aborted => "aborted",
+    }
+}
+
+fn step_word(code: u8) -> &'static str {
+    match code {
+        BEGIN => "begin",
+        ABORT => "abort",
+        _ => "commit",
+    }
+}

@@ -1,0 +1,482 @@
+//! The state after the accepted events, and the judging of the next one.
+
+use crate::event::Event;
+use crate::operations::{OperationSet, MOST_OPERATIONS};
+use crate::refusal;
+use crate::tables::{Kind, Sort, Tables, MOST_OBJECTS, MOST_TRANSACTIONS};
+
+/// What an operation does with its object.
+#[derive(Clone, Copy, Debug, PartialEq, Eq)]
+pub enum Mark {
+    Read,
+    Write,
+}
+
+/// How far a transaction, or an operation, has come. No operation is idle.
+#[derive(Clone, Copy, Debug, PartialEq, Eq)]
+pub enum Phase {
+    Idle,
+    Active,
+    Committed,
+    Aborted,
+}
+
+/// The state of all transactions and operations. Transactions are held as the
+/// bits of one number; one that is in no set is idle.
+#[derive(Clone, Debug)]
+pub struct State {
+    active: u64,
+    committed: u64,
+    aborted: u64,
+    /// For each ended transaction, how many operations were accepted by then.
+    /// The operations it answers for ended with it, so this tells which later
+    /// operations found them still active.
+    ended_at: [u16; MOST_TRANSACTIONS],
+
+    /// How many operations are accepted.
+    accepted: usize,
+    object_of: [u8; MOST_OPERATIONS],
+    responsible: [u8; MOST_OPERATIONS],
+    writes: OperationSet,
+    active_operations: OperationSet,
+    committed_operations: OperationSet,
+    aborted_operations: OperationSet,
+    /// The operations on each object.
+    on_object: [OperationSet; MOST_OBJECTS],
+    /// The operations each transaction is responsible for now.
+    answered_by: [OperationSet; MOST_TRANSACTIONS],
+}
+
+#[inline]
+fn bit(transaction: usize) -> u64 {
+    1 << transaction
+}
+
+#[inline]
+fn refuse_unless(holds: bool, number: u8) -> Result<(), u8> {
+    if holds {
+        Ok(())
+    } else {
+        Err(number)
+    }
+}
+
+impl State {
+    /// All transactions idle, no operation accepted.
+    pub(crate) const EMPTY: State = State {
+        active: 0,
+        committed: 0,
+        aborted: 0,
+        ended_at: [0; MOST_TRANSACTIONS],
+        accepted: 0,
+        object_of: [0; MOST_OPERATIONS],
+        responsible: [0; MOST_OPERATIONS],
+        writes: OperationSet::EMPTY,
+        active_operations: OperationSet::EMPTY,
+        committed_operations: OperationSet::EMPTY,
+        aborted_operations: OperationSet::EMPTY,
+        on_object: [OperationSet::EMPTY; MOST_OBJECTS],
+        answered_by: [OperationSet::EMPTY; MOST_TRANSACTIONS],
+    };
+
+    /// The active transactions, as bits.
+    pub fn active(&self) -> u64 {
+        self.active
+    }
+
+    /// How many operations are accepted.
+    pub fn operations(&self) -> usize {
+        self.accepted
+    }
+
+    pub fn phase(&self, transaction: usize) -> Phase {
+        if self.is_active(transaction) {
+            Phase::Active
+        } else if self.is_committed(transaction) {
+            Phase::Committed
+        } else if self.is_aborted(transaction) {
+            Phase::Aborted
+        } else {
+            Phase::Idle
+        }
+    }
+
+    pub fn operation_phase(&self, operation: usize) -> Phase {
+        if self.active_operations.contains(operation) {
+            Phase::Active
+        } else if self.committed_operations.contains(operation) {
+            Phase::Committed
+        } else {
+            Phase::Aborted
+        }
+    }
+
+    pub fn mark(&self, operation: usize) -> Mark {
+        if self.writes.contains(operation) {
+            Mark::Write
+        } else {
+            Mark::Read
+        }
+    }
+
+    /// The object an operation is on.
+    pub fn object(&self, operation: usize) -> usize {
+        usize::from(self.object_of[operation])
+    }
+
+    /// The transaction that answers for an operation now.
+    #[inline]
+    pub fn responsible(&self, operation: usize) -> usize {
+        usize::from(self.responsible[operation])
+    }
+
+    #[inline]
+    fn is_idle(&self, transaction: usize) -> bool {
+        (self.active | self.committed | self.aborted) & bit(transaction) == 0
+    }
+
+    #[inline]
+    pub(crate) fn is_active(&self, transaction: usize) -> bool {
+        self.active & bit(transaction) != 0
+    }
+
+    #[inline]
+    pub(crate) fn is_committed(&self, transaction: usize) -> bool {
+        self.committed & bit(transaction) != 0
+    }
+
+    #[inline]
+    fn is_aborted(&self, transaction: usize) -> bool {
+        self.aborted & bit(transaction) != 0
+    }
+
+    #[inline]
+    fn is_ended(&self, transaction: usize) -> bool {
+        (self.committed | self.aborted) & bit(transaction) != 0
+    }
+
+    /// Judges one event and, if it is accepted, takes it in. A refused one
+    /// changes nothing, so the caller may go on with another.
+    #[inline]
+    pub fn offer(&mut self, tables: &Tables, event: Event) -> Result<(), u8> {
+        match event {
+            Event::Begin { transaction } => self.begin(tables, transaction),
+            Event::Commit { transaction } => self.commit(tables, transaction),
+            Event::Abort { transaction } => self.abort(tables, transaction),
+            Event::Operation {
+                transaction,
+                object,
+                mark,
+            } => self.operate(tables, transaction, object, mark),
+            Event::Delegate {
+                giver,
+                receiver,
+                operation,
+            } => self.delegate(tables, giver, receiver, operation),
+        }
+    }
+
+    fn begin(&mut self, tables: &Tables, transaction: u16) -> Result<(), u8> {
+        let t = known_transaction(tables, transaction)?;
+        refuse_unless(self.is_idle(t), refusal::NOT_IDLE)?;
+        refuse_unless(self.saga_lets_begin(tables, t), refusal::SAGA_RULE)?;
+        refuse_unless(
+            self.dependencies_let_begin(tables, t),
+            refusal::DECLARED_DEPENDENCY,
+        )?;
+        self.active |= bit(t);
+        Ok(())
+    }
+
+    fn commit(&mut self, tables: &Tables, transaction: u16) -> Result<(), u8> {
+        let t = known_transaction(tables, transaction)?;
+        refuse_unless(self.is_active(t), refusal::NOT_ACTIVE)?;
+        refuse_unless(self.saga_lets_commit(tables, t), refusal::SAGA_RULE)?;
+        refuse_unless(
+            self.dependencies_let_commit(tables, t),
+            refusal::DECLARED_DEPENDENCY,
+        )?;
+        refuse_unless(!self.has_dirty_read(t), refusal::DIRTY_READ)?;
+        refuse_unless(!self.is_on_a_ring(t), refusal::ON_A_RING)?;
+        let ended = self.end_operations(t);
+        self.committed_operations = self.committed_operations.or(&ended);
+        self.active &= !bit(t);
+        self.committed |= bit(t);
+        Ok(())
+    }
+
+    fn abort(&mut self, tables: &Tables, transaction: u16) -> Result<(), u8> {
+        let t = known_transaction(tables, transaction)?;
+        let sort = tables.sort(t);
+        refuse_unless(!matches!(sort, Sort::Undo { .. }), refusal::NEVER_DONE)?;
+        refuse_unless(self.is_active(t), refusal::NOT_ACTIVE)?;
+        if let Sort::Saga { last_step } = sort {
+            refuse_unless(
+                !self.is_committed(usize::from(last_step)),
+                refusal::SAGA_RULE,
+            )?;
+        }
+        let ended = self.end_operations(t);
+        self.aborted_operations = self.aborted_operations.or(&ended);
+        self.active &= !bit(t);
+        self.aborted |= bit(t);
+        Ok(())
+    }
+
+    fn operate(
+        &mut self,
+        tables: &Tables,
+        transaction: u16,
+        object: u16,
+        mark: u16,
+    ) -> Result<(), u8> {
+        let t = known_transaction(tables, transaction)?;
+        let object = known_object(tables, object)?;
+        let mark = known_mark(mark)?;
+        let sort = tables.sort(t);
+        refuse_unless(!matches!(sort, Sort::Saga { .. }), refusal::NEVER_DONE)?;
+        refuse_unless(self.is_active(t), refusal::NOT_ACTIVE)?;
+        if let Sort::Undo { .. } = sort {
+            let conflicting = self.active_conflicts(object, mark);
+            let of_others = conflicting.without(&self.answered_by[t]);
+            refuse_unless(of_others.is_empty(), refusal::UNDO_MUST_WAIT)?;
+        }
+        refuse_unless(self.accepted < MOST_OPERATIONS, refusal::OPERATIONS_USED_UP)?;
+        self.take_operation(t, object, mark);
+        Ok(())
+    }
+
+    fn take_operation(&mut self, t: usize, object: usize, mark: Mark) {
+        let operation = self.accepted;
+        self.accepted += 1;
+        self.object_of[operation] = object as u8;
+        self.responsible[operation] = t as u8;
+        self.active_operations.insert(operation);
+        self.on_object[object].insert(operation);
+        self.answered_by[t].insert(operation);
+        if mark == Mark::Write {
+            self.writes.insert(operation);
+        }
+    }
+
+    fn delegate(
+        &mut self,
+        tables: &Tables,
+        giver: u16,
+        receiver: u16,
+        operation: u16,
+    ) -> Result<(), u8> {
+        let giver = known_transaction(tables, giver)?;
+        let receiver = known_transaction(tables, receiver)?;
+        let operation = self.known_operation(operation)?;
+        let both_delegate = tables.sort(giver).delegates() && tables.sort(receiver).delegates();
+        refuse_unless(both_delegate && giver != receiver, refusal::NEVER_DONE)?;
+        let both_active = self.is_active(giver) && self.is_active(receiver);
+        refuse_unless(both_active, refusal::NOT_ACTIVE)?;
+        refuse_unless(
+            self.responsible(operation) == giver,
+            refusal::NOT_RESPONSIBLE,
+        )?;
+        self.responsible[operation] = receiver as u8;
+        self.answered_by[giver].remove(operation);
+        self.answered_by[receiver].insert(operation);
+        Ok(())
+    }
+
+    fn known_operation(&self, operation: u16) -> Result<usize, u8> {
+        let operation = usize::from(operation);
+        refuse_unless(operation < self.accepted, refusal::NOT_IN_THE_TABLES)?;
+        Ok(operation)
+    }
+
+    /// Whether the saga a transaction belongs to lets it begin.
+    fn saga_lets_begin(&self, tables: &Tables, t: usize) -> bool {
+        match tables.sort(t) {
+            Sort::Saga { .. } | Sort::Plain => true,
+            Sort::Step { saga } => {
+                let saga = usize::from(saga);
+                let before = t - 1;
+                let is_first = before == saga;
+                self.is_active(saga) && (is_first || self.is_committed(before))
+            }
+            Sort::Undo {
+                saga,
+                step,
+                last_step,
+            } => {
+                let next_step = usize::from(step) + 1;
+                let next_has_undo = next_step < usize::from(last_step);
+                let next_is_undone = next_has_undo && self.is_committed(t + 1);
+                self.is_aborted(usize::from(saga))
+                    && self.is_committed(usize::from(step))
+                    && !self.is_active(next_step)
+                    && (!self.is_committed(next_step) || next_is_undone)
+            }
+        }
+    }
+
+    /// Whether the saga a transaction belongs to lets it commit.
+    fn saga_lets_commit(&self, tables: &Tables, t: usize) -> bool {
+        match tables.sort(t) {
+            Sort::Saga { last_step } => self.is_committed(usize::from(last_step)),
+            Sort::Step { saga } => self.is_active(usize::from(saga)),
+            Sort::Undo { .. } | Sort::Plain => true,
+        }
+    }
+
+    fn dependencies_let_begin(&self, tables: &Tables, t: usize) -> bool {
+        tables.dependencies_of(t).iter().all(|dependency| {
+            let base = dependency.base();
+            match dependency.kind() {
+                Kind::Begin => !self.is_idle(base),
+                Kind::Serial => self.is_ended(base),
+                Kind::BeginOnCommit => self.is_committed(base),
+                Kind::BeginOnAbort => self.is_aborted(base),
+                Kind::Commit | Kind::Abort | Kind::WeakAbort => true,
+            }
+        })
+    }
+
+    fn dependencies_let_commit(&self, tables: &Tables, t: usize) -> bool {
+        tables.dependencies_of(t).iter().all(|dependency| {
+            let base = dependency.base();
+            match dependency.kind() {
+                Kind::Commit => self.is_ended(base),
+                Kind::Abort => self.is_committed(base),
+                Kind::WeakAbort => !self.is_aborted(base),
+                Kind::Begin | Kind::Serial | Kind::BeginOnCommit | Kind::BeginOnAbort => true,
+            }
+        })
+    }
+
+    /// The active operations on an object that conflict with a new one: same
+    /// object, at least one of the two a write.
+    fn active_conflicts(&self, object: usize, mark: Mark) -> OperationSet {
+        let active = self.on_object[object].and(&self.active_operations);
+        match mark {
+            Mark::Read => active.and(&self.writes),
+            Mark::Write => active,
+        }
+    }
+
+    /// How many operations were accepted before the operations `t` answers for
+    /// ended: those from this number on did not find them active.
+    #[inline]
+    fn operations_before_end(&self, t: usize) -> usize {
+        if self.is_ended(t) {
+            usize::from(self.ended_at[t])
+        } else {
+            MOST_OPERATIONS
+        }
+    }
+
+    /// Whether a read that `t` answers for is tied after a write that is
+    /// neither committed nor its own. Of the writes one transaction answers
+    /// for, the lowest on an object ties the most.
+    fn has_dirty_read(&self, t: usize) -> bool {
+        let own = &self.answered_by[t];
+        let unsettled = self.writes.without(&self.committed_operations).without(own);
+        let mut reads = own.without(&self.writes);
+        while let Some(read) = reads.lowest() {
+            let on_object = &self.on_object[self.object(read)];
+            let reads_here = reads.and(on_object);
+            reads = reads.without(on_object);
+            let mut suspects = on_object.and(&unsettled);
+            while let Some(write) = suspects.lowest() {
+                let writer = self.responsible(write);
+                let found_active = self.operations_before_end(writer);
+                if !reads_here.above(write).below(found_active).is_empty() {
+                    return true;
+                }
+                suspects = suspects.without(&self.answered_by[writer]);
+            }
+        }
+        false
+    }
+
+    /// Whether following ties leads from `t` back to it. Each transaction is
+    /// followed once.
+    fn is_on_a_ring(&self, t: usize) -> bool {
+        let mut unreached = self.operations_not_aborted();
+        let mut to_follow = self.reach_after(t, &mut unreached);
+        while to_follow != 0 {
+            if to_follow & bit(t) != 0 {
+                return true;
+            }
+            let next = to_follow.trailing_zeros() as usize;
+            to_follow &= !bit(next);
+            to_follow |= self.reach_after(next, &mut unreached);
+        }
+        false
+    }
+
+    /// The transactions that `earlier` stands before by one tie, as bits.
+    pub(crate) fn standing_after(&self, earlier: usize) -> u64 {
+        self.reach_after(earlier, &mut self.operations_not_aborted())
+    }
+
+    fn operations_not_aborted(&self) -> OperationSet {
+        OperationSet::ALL.without(&self.aborted_operations)
+    }
+
+    /// The transactions that `earlier` stands before by a tie with an operation
+    /// in `unreached`. All they answer for is taken out of that set.
+    fn reach_after(&self, earlier: usize, unreached: &mut OperationSet) -> u64 {
+        let own = &self.answered_by[earlier];
+        let mut tied = self.tied_after(earlier).without(own).and(unreached);
+        let mut reached = 0;
+        while let Some(operation) = tied.lowest() {
+            let later = self.responsible(operation);
+            reached |= bit(later);
+            tied = tied.without(&self.answered_by[later]);
+            *unreached = unreached.without(&self.answered_by[later]);
+        }
+        reached
+    }
+
+    /// All operations tied after one that `earlier` answers for and that isn't
+    /// aborted. On each object a later write is tied after the lowest own
+    /// operation, a later read after the lowest own write, if after any.
+    fn tied_after(&self, earlier: usize) -> OperationSet {
+        let mut own = self.answered_by[earlier].without(&self.aborted_operations);
+        let mut tied = OperationSet::EMPTY;
+        while let Some(first) = own.lowest() {
+            let on_object = &self.on_object[self.object(first)];
+            tied = tied.or(&on_object.and(&self.writes).above(first));
+            if let Some(first_write) = own.and(on_object).and(&self.writes).lowest() {
+                tied = tied.or(&on_object.above(first_write));
+            }
+            own = own.without(on_object);
+        }
+        tied.below(self.operations_before_end(earlier))
+    }
+
+    /// Notes that `t` ends now, takes the operations it answers for out of the
+    /// active ones and hands them back.
+    fn end_operations(&mut self, t: usize) -> OperationSet {
+        self.ended_at[t] = self.accepted as u16;
+        let ended = self.answered_by[t].and(&self.active_operations);
+        self.active_operations = self.active_operations.without(&ended);
+        ended
+    }
+}
+
+fn known_transaction(tables: &Tables, transaction: u16) -> Result<usize, u8> {
+    let t = usize::from(transaction);
+    refuse_unless(t < tables.transactions(), refusal::NOT_IN_THE_TABLES)?;
+    Ok(t)
+}
+
+fn known_object(tables: &Tables, object: u16) -> Result<usize, u8> {
+    let object = usize::from(object);
+    refuse_unless(object < tables.objects(), refusal::NOT_IN_THE_TABLES)?;
+    Ok(object)
+}
+
+fn known_mark(mark: u16) -> Result<Mark, u8> {
+    match mark {
+        0 => Ok(Mark::Read),
+        1 => Ok(Mark::Write),
+        _ => Err(refusal::NOT_IN_THE_TABLES),
+    }
+}

@@ -1,0 +1,329 @@
+//! The tables at the beginning of a book: which transactions there are and
+//! which dependencies are declared between them.
+
+use crate::fields::Fields;
+use crate::refusal;
+use crate::Stop;
+use std::ops::RangeInclusive;
+
+/// The only edition of a book.
+const EDITION: u16 = 1;
+/// At most this many transactions stand in a book.
+pub const MOST_TRANSACTIONS: usize = 64;
+const MOST_SAGAS: usize = 16;
+const MOST_STEPS: usize = 16;
+/// At most this many objects stand in a book.
+pub const MOST_OBJECTS: usize = 32;
+const MOST_DEPENDENCIES: usize = 128;
+
+/// What a transaction is.
+#[derive(Clone, Copy, Debug, PartialEq, Eq)]
+pub enum Sort {
+    /// A transaction that belongs to no saga.
+    Plain,
+    /// The saga S as a whole.
+    Saga { last_step: u8 },
+    /// A step of the saga S.
+    Step { saga: u8 },
+    /// The undo of a step of the saga S.
+    Undo { saga: u8, step: u8, last_step: u8 },
+}
+
+impl Sort {
+    /// Whether it may give and receive operations.
+    #[inline]
+    pub fn delegates(self) -> bool {
+        matches!(self, Sort::Step { .. } | Sort::Plain)
+    }
+}
+
+/// Where a saga stands among the transactions.
+#[derive(Clone, Copy, Debug, PartialEq, Eq)]
+pub struct Saga {
+    first: u8,
+    steps: u8,
+}
+
+impl Saga {
+    /// The transaction S.
+    pub fn whole(self) -> usize {
+        usize::from(self.first)
+    }
+
+    /// How many steps it has.
+    pub fn steps(self) -> usize {
+        usize::from(self.steps)
+    }
+
+    /// The transaction T(i), i from 1 to the number of steps.
+    pub fn step(self, i: usize) -> usize {
+        self.whole() + i
+    }
+
+    /// The transaction Tn.
+    pub fn last_step(self) -> usize {
+        self.step(self.steps())
+    }
+
+    /// The transaction C(i), i from 1 to the number of steps less one.
+    pub fn undo(self, i: usize) -> usize {
+        self.last_step() + i
+    }
+}
+
+/// What a declared dependency asks.
+#[derive(Clone, Copy, Debug, PartialEq, Eq, PartialOrd, Ord)]
+pub enum Kind {
+    Commit,
+    Abort,
+    WeakAbort,
+    Begin,
+    Serial,
+    BeginOnCommit,
+    BeginOnAbort,
+}
+
+impl Kind {
+    fn numbered(number: u16) -> Option<Kind> {
+        Some(match number {
+            1 => Kind::Commit,
+            2 => Kind::Abort,
+            3 => Kind::WeakAbort,
+            4 => Kind::Begin,
+            5 => Kind::Serial,
+            6 => Kind::BeginOnCommit,
+            7 => Kind::BeginOnAbort,
+            _ => return None,
+        })
+    }
+
+    /// Kinds 1 to 3 bar a commit, kinds 4 to 7 a begin.
+    fn bars_commit(self) -> bool {
+        self <= Kind::WeakAbort
+    }
+}
+
+/// A declared dependency of `dependent` on `base`. Entries are compared by
+/// dependent, then base, then kind.
+#[derive(Clone, Copy, Debug, PartialEq, Eq, PartialOrd, Ord)]
+pub struct Dependency {
+    dependent: u8,
+    base: u8,
+    kind: Kind,
+}
+
+impl Dependency {
+    pub fn base(self) -> usize {
+        usize::from(self.base)
+    }
+
+    pub fn kind(self) -> Kind {
+        self.kind
+    }
+}
+
+/// The tables of a book; without any entry if they were refused.
+#[derive(Clone, Debug)]
+pub struct Tables {
+    saga_count: usize,
+    sagas: [Saga; MOST_SAGAS],
+    transactions: usize,
+    sorts: [Sort; MOST_TRANSACTIONS],
+    objects: usize,
+    dependency_count: usize,
+    dependencies: [Dependency; MOST_DEPENDENCIES],
+    /// Where the dependencies of each transaction begin and end among the entries.
+    dependencies_of: [(u8, u8); MOST_TRANSACTIONS],
+}
+
+impl Tables {
+    /// Tables without any entry.
+    pub(crate) const EMPTY: Tables = Tables {
+        saga_count: 0,
+        sagas: [Saga { first: 0, steps: 0 }; MOST_SAGAS],
+        transactions: 0,
+        sorts: [Sort::Plain; MOST_TRANSACTIONS],
+        objects: 0,
+        dependency_count: 0,
+        dependencies: [Dependency {
+            dependent: 0,
+            base: 0,
+            kind: Kind::Commit,
+        }; MOST_DEPENDENCIES],
+        dependencies_of: [(0, 0); MOST_TRANSACTIONS],
+    };
+
+    /// How many transactions there are.
+    #[inline]
+    pub fn transactions(&self) -> usize {
+        self.transactions
+    }
+
+    /// How many objects there are.
+    #[inline]
+    pub fn objects(&self) -> usize {
+        self.objects
+    }
+
+    /// The sort of a transaction.
+    #[inline]
+    pub fn sort(&self, transaction: usize) -> Sort {
+        self.sorts[transaction]
+    }
+
+    /// The sagas by rising number.
+    pub fn sagas(&self) -> &[Saga] {
+        &self.sagas[..self.saga_count]
+    }
+
+    /// The declared dependencies of one transaction on others.
+    #[inline]
+    pub fn dependencies_of(&self, dependent: usize) -> &[Dependency] {
+        let (begin, end) = self.dependencies_of[dependent];
+        &self.dependencies[usize::from(begin)..usize::from(end)]
+    }
+
+    /// Reads tables that are empty so far up to the first event. Refused
+    /// tables are empty again.
+    pub(crate) fn read(&mut self, fields: &mut impl Fields) -> Result<(), Stop> {
+        let outcome = self.read_entries(fields);
+        if outcome.is_err() {
+            *self = Tables::EMPTY;
+        }
+        outcome
+    }
+
+    fn read_entries(&mut self, fields: &mut impl Fields) -> Result<(), Stop> {
+        read_edition(fields)?;
+        for _ in 0..read_count(fields, 0..=MOST_SAGAS)? {
+            self.read_saga(fields)?;
+        }
+        self.read_plain_transactions(fields)?;
+        self.objects = read_count(fields, 0..=MOST_OBJECTS)?;
+        for _ in 0..read_count(fields, 0..=MOST_DEPENDENCIES)? {
+            self.read_dependency(fields)?;
+        }
+        Ok(())
+    }
+
+    fn read_saga(&mut self, fields: &mut impl Fields) -> Result<(), Stop> {
+        let place = fields.place();
+        let steps = read_count(fields, 1..=MOST_STEPS)?;
+        let saga = Saga {
+            first: self.transactions as u8,
+            steps: steps as u8,
+        };
+        self.take_in_transactions(2 * steps, place)?;
+        self.sagas[self.saga_count] = saga;
+        self.saga_count += 1;
+
+        let whole = saga.first;
+        let last_step = saga.last_step() as u8;
+        self.sorts[saga.whole()] = Sort::Saga { last_step };
+        for i in 1..=steps {
+            self.sorts[saga.step(i)] = Sort::Step { saga: whole };
+        }
+        for i in 1..steps {
+            self.sorts[saga.undo(i)] = Sort::Undo {
+                saga: whole,
+                step: saga.step(i) as u8,
+                last_step,
+            };
+        }
+        Ok(())
+    }
+
+    fn read_plain_transactions(&mut self, fields: &mut impl Fields) -> Result<(), Stop> {
+        let place = fields.place();
+        let plain = read_count(fields, 0..=MOST_TRANSACTIONS)?;
+        self.take_in_transactions(plain, place)
+    }
+
+    /// Counts further transactions in; `place` is the field that asks for them.
+    fn take_in_transactions(&mut self, further: usize, place: usize) -> Result<(), Stop> {
+        if self.transactions + further > MOST_TRANSACTIONS {
+            return Err(Stop {
+                number: refusal::BAD_COUNT,
+                place,
+            });
+        }
+        self.transactions += further;
+        Ok(())
+    }
+
+    fn read_dependency(&mut self, fields: &mut impl Fields) -> Result<(), Stop> {
+        let place = fields.place();
+        let dependent = read_field(fields)?;
+        let base = read_field(fields)?;
+        let kind = read_field(fields)?;
+        let Some(entry) = self.allowed_dependency(dependent, base, kind) else {
+            return Err(Stop {
+                number: refusal::BAD_DEPENDENCY,
+                place,
+            });
+        };
+        let index = self.dependency_count;
+        let (begin, end) = &mut self.dependencies_of[usize::from(entry.dependent)];
+        if *begin == *end {
+            *begin = index as u8;
+        }
+        *end = index as u8 + 1;
+        self.dependencies[index] = entry;
+        self.dependency_count += 1;
+        Ok(())
+    }
+
+    /// The entry, if it may stand after those read so far.
+    fn allowed_dependency(&self, dependent: u16, base: u16, kind: u16) -> Option<Dependency> {
+        let known = |number: u16| (usize::from(number) < self.transactions).then_some(number as u8);
+        let entry = Dependency {
+            dependent: known(dependent)?,
+            base: known(base)?,
+            kind: Kind::numbered(kind)?,
+        };
+        let base_allowed = matches!(self.sort(entry.base()), Sort::Plain | Sort::Saga { .. });
+        let dependent_allowed = match self.sort(usize::from(entry.dependent)) {
+            Sort::Plain => true,
+            Sort::Saga { .. } => !entry.kind.bars_commit(),
+            Sort::Step { .. } | Sort::Undo { .. } => false,
+        };
+        let rising = match self.dependencies[..self.dependency_count].last() {
+            Some(before) => *before < entry,
+            None => true,
+        };
+        let allowed = entry.dependent != entry.base && base_allowed && dependent_allowed && rising;
+        allowed.then_some(entry)
+    }
+}
+
+fn read_edition(fields: &mut impl Fields) -> Result<(), Stop> {
+    let place = fields.place();
+    if read_field(fields)? != EDITION {
+        return Err(Stop {
+            number: refusal::BAD_EDITION,
+            place,
+        });
+    }
+    Ok(())
+}
+
+fn read_count(fields: &mut impl Fields, range: RangeInclusive<usize>) -> Result<usize, Stop> {
+    let place = fields.place();
+    let count = usize::from(read_field(fields)?);
+    if !range.contains(&count) {
+        return Err(Stop {
+            number: refusal::BAD_COUNT,
+            place,
+        });
+    }
+    Ok(count)
+}
+
+/// One field, or refusal 2 or 3 at that field.
+#[inline]
+pub fn read_field(fields: &mut impl Fields) -> Result<u16, Stop> {
+    fields.next().map_err(|number| Stop {
+        number,
+        place: fields.place(),
+    })
+}

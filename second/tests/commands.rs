@@ -1,0 +1,177 @@
+//! The commands, run as a user runs them.
+
+use std::fs;
+use std::io::Write;
+use std::path::PathBuf;
+use std::process::{Command, Output, Stdio};
+
+const LISTED: [u8; 24] = [
+    0x01, 0x01, 0x02, 0x01, 0x01, 0x00, 0x01, 0x00, 0x01, 0x01, 0x01, 0x04, //
+    0x04, 0x01, 0x00, 0x01, 0x05, 0x01, 0x04, 0x00, 0x02, 0x01, 0x03, 0x00,
+];
+const LISTED_FIELDS: &str = "1 1 2 1 1 0 1 0 1 1 1 4 4 1 0 1 5 1 4 0 2 1 3 0";
+
+fn program() -> Command {
+    Command::new(env!("CARGO_BIN_EXE_second"))
+}
+
+fn run(arguments: &[&str], input: &[u8]) -> Output {
+    let mut child = program()
+        .args(arguments)
+        .stdin(Stdio::piped())
+        .stdout(Stdio::piped())
+        .stderr(Stdio::piped())
+        .spawn()
+        .unwrap();
+    // A command that reads no input may be gone already.
+    let _ = child.stdin.take().unwrap().write_all(input);
+    child.wait_with_output().unwrap()
+}
+
+#[track_caller]
+fn answers(arguments: &[&str], input: &[u8], expected: &str) {
+    let output = run(arguments, input);
+    assert_eq!(String::from_utf8_lossy(&output.stdout), expected);
+    assert!(output.status.success());
+    assert!(output.stderr.is_empty());
+}
+
+#[track_caller]
+fn complains(arguments: &[&str], input: &[u8]) {
+    let output = run(arguments, input);
+    let message = String::from_utf8_lossy(&output.stderr);
+    assert!(!output.status.success());
+    assert!(output.stdout.is_empty());
+    assert!(message.starts_with("second: "), "{message}");
+    assert!(!message.contains("panicked"), "{message}");
+}
+
+/// A new empty folder for one test.
+fn folder(name: &str) -> PathBuf {
+    let folder = PathBuf::from(env!("CARGO_TARGET_TMPDIR")).join(name);
+    let _ = fs::remove_dir_all(&folder);
+    fs::create_dir_all(&folder).unwrap();
+    folder
+}
+
+#[test]
+fn listing_and_pairs() {
+    answers(
+        &["listing"],
+        &LISTED,
+        "book accepted 7\nt 0 aborted\nt 1 committed\nt 2 idle\nt 3 idle\nt 4 active\n\
+         op 0 0 write 4 active\nsaga 0 2 begin 3\n",
+    );
+    answers(&["listing"], &[], "book refused 2 0 0\n");
+    answers(&["listing"], &[1; 70_000], "book refused 1 0 0\n");
+    answers(&["pairs"], &LISTED, "active 1 lowest 4\n");
+    let three_writers = [
+        1, 0, 3, 1, 0, 1, 0, 1, 1, 1, 2, 4, 1, 0, 1, 4, 0, 0, 1, 4, 2, 0, 1,
+    ];
+    answers(
+        &["pairs"],
+        &three_writers,
+        "active 3 lowest 0\n0 2\n1 0\n1 2\n",
+    );
+    answers(&["pairs"], &[7], "active 0 lowest 64\n");
+}
+
+#[test]
+fn opening() {
+    let with_refused_event = [&LISTED[..], &[1, 2]].concat();
+    let output = run(&["opening"], &with_refused_event);
+    assert!(output.status.success());
+    assert_eq!(output.stdout, LISTED);
+    answers(&["opening"], &[9], "");
+}
+
+#[test]
+fn unpack() {
+    let lines = LISTED_FIELDS.replace(' ', "\n");
+    let unpacked = format!("unpacked 24\n{lines}\n");
+    answers(&["unpack"], &LISTED, &unpacked);
+    answers(&["unpack", "24"], &LISTED, &unpacked);
+    answers(&["unpack", "99999999999"], &LISTED, &unpacked);
+    answers(&["unpack", "23"], &LISTED, "refused 19 7 0\n");
+    answers(&["unpack", "0"], &LISTED[..23], "refused 2 6 23\n");
+}
+
+#[test]
+fn write() {
+    let written = "written 24\n01 01 02 01 01 00 01 00 01 01 01 04 \
+                   04 01 00 01 05 01 04 00 02 01 03 00\n";
+    answers(&["write"], LISTED_FIELDS.as_bytes(), written);
+    answers(&["write", "24"], LISTED_FIELDS.as_bytes(), written);
+    answers(
+        &["write", "23"],
+        LISTED_FIELDS.as_bytes(),
+        "refused 19 7 0\n",
+    );
+    answers(&["write"], b" \n", "refused 2 0 0\n");
+    answers(&["write"], b"1\t0 0\n0 0\n65535", "refused 7 0 5\n");
+}
+
+#[test]
+fn listings_of_a_folder() {
+    let folder = folder("listings");
+    fs::write(folder.join("b"), [1, 0, 0, 0, 0]).unwrap();
+    fs::write(folder.join("a"), []).unwrap();
+    fs::write(folder.join("B"), [1, 0, 1, 0, 0]).unwrap();
+    fs::create_dir(folder.join("c")).unwrap();
+    answers(
+        &["listings", folder.to_str().unwrap()],
+        &[],
+        "== B\nbook accepted 0\nt 0 idle\n== a\nbook refused 2 0 0\n== b\nbook accepted 0\n",
+    );
+}
+
+#[test]
+fn measure() {
+    let file = folder("measure").join("listed");
+    fs::write(&file, LISTED).unwrap();
+    let output = run(&["measure", file.to_str().unwrap(), "10"], &[]);
+    let line = String::from_utf8(output.stdout).unwrap();
+    let words: Vec<&str> = line.split_whitespace().collect();
+    assert_eq!(words[0], "ns_per_event");
+    assert!(words[1].parse::<f64>().unwrap() > 0.0);
+    assert_eq!(words[2..], ["events", "7", "reads", "10"]);
+}
+
+#[test]
+fn bad_input_to_the_tool() {
+    complains(&[], &[]);
+    complains(&["listing", "more"], &LISTED);
+    complains(&["sagabook"], &LISTED);
+    complains(&["unpack", "many"], &LISTED);
+    complains(&["unpack", ""], &LISTED);
+    complains(&["unpack", "+5"], &LISTED);
+    complains(&["unpack", "99999999999999999999999"], &LISTED);
+    complains(&["write"], b"1 0 0 0 x");
+    complains(&["write"], b"1 0 0 0 65536");
+    complains(&["write"], b"1 0 0 0 +0");
+    complains(&["write"], b"1 0 0 0 -1");
+    complains(&["write"], &[0xFF, 0xFE]);
+    complains(&["listings"], &[]);
+    complains(&["listings", "no/such/folder"], &[]);
+    complains(&["measure", "no/such/file", "3"], &[]);
+    let file = folder("bad").join("listed");
+    fs::write(&file, LISTED).unwrap();
+    complains(&["measure", file.to_str().unwrap(), "0"], &[]);
+}
+
+#[test]
+fn closed_standard_output() {
+    let mut child = program()
+        .arg("listing")
+        .stdin(Stdio::piped())
+        .stdout(Stdio::piped())
+        .stderr(Stdio::piped())
+        .spawn()
+        .unwrap();
+    drop(child.stdout.take());
+    child.stdin.take().unwrap().write_all(&LISTED).unwrap();
+    let output = child.wait_with_output().unwrap();
+    let message = String::from_utf8_lossy(&output.stderr);
+    assert_eq!(output.status.code(), Some(1));
+    assert!(message.starts_with("second: standard output"), "{message}");
+}

@@ -1,0 +1,10 @@
+//! The rules of the saga book, run through the library as a user of it would.
+
+mod books;
+mod closing;
+mod decided;
+mod line;
+mod refusals;
+mod ties;
+mod writing;
+mod wrong_turns;
