@@ -2,6 +2,7 @@
 pub mod Bools
 pub mod Decisions
 pub mod IndexLaws
+pub mod SearchLaws
 pub mod HighestLaws
 pub mod LineLaws
 pub mod ListLaws

@@ -2,24 +2,8 @@
 use mathlib.Core.Path.{_≡_, refl, sym, ap, _∙_}
 use mathlib.Core.Bool.{Bool, true, false, cond}
 use mathlib.Core.List.{List, [], _∷_, _++_}
-use Rattle.laws.specs.Lines.{Line, firstLine}
+use Rattle.laws.specs.Lines.{Line, firstLine, Off, FirstIs}
 use Rattle.laws.proofs.Bools.{bool-cases}
-
-module _ {R : Type 0} where
-  -- no line holds
-  abbrev pub Off : List (Line R) → Type 0
-  Off [] = Unit {0}
-  Off (l ∷ ls) = (l .holds ≡ false) × Off ls
-
-  -- the first line that holds is this one, with that refusal
-  pub record FirstIs (r : R) (ls : List (Line R)) : Type 0 where
-    pub earlier : List (Line R)
-    pub this : Line R
-    pub later : List (Line R)
-    pub split : ls ≡ earlier ++ (this ∷ later)
-    pub none-before : Off earlier
-    pub holds : this .holds ≡ true
-    pub refuses : this .refusal ≡ r
 
 module _ {R A : Type 0} (given : R → A) (otherwise : A) where
   pub off-first : (ls : List (Line R)) → Off ls → firstLine given otherwise ls ≡ otherwise

@@ -37,6 +37,11 @@ pub join : {R : ℕ → ℕ → Bool} {a b c : ℕ} → Leads R a b → Leads R 
 join (Leads.last h) w = Leads.step h w
 join (Leads.step h v) w = Leads.step h (join v w)
 
+-- the last step of a way
+pub last-step : {R : ℕ → ℕ → Bool} {a b : ℕ} → Leads R a b → (c : ℕ) × (R c b ≡ true)
+last-step {a = a} (Leads.last h) = (a, h)
+last-step (Leads.step h w) = last-step w
+
 -- a way along R is a way along any relation that has all of R's pairs
 pub leads-more : {R Q : ℕ → ℕ → Bool} → ((a b : ℕ) → R a b ≡ true → Q a b ≡ true) → {a b : ℕ} → Leads R a b → Leads Q a b
 leads-more f {a} {b} (Leads.last h) = Leads.last (f a b h)

@@ -3,16 +3,19 @@ use Prim.Native.Nat.{ℕ, zero, suc, _+_, _*_, _/_, _%_, _^_, _≤_, _<_, zero-l
 use native.Mathlib.Nat.{le-of-suc-le-suc, not-suc-le-zero, zero-lt-suc, zero-div, div-one, pow-suc, mul-mod-left, mul-div-mul-right, div-eq-of-lt, lt-of-lt-of-le, mod-lt, div-add-mod', div-lt-iff-lt-mul, mul-comm, div-div-eq-div-mul}
 use native.Mathlib.Omega.{arith}
 use mathlib.Core.Path.{_≡_, refl, sym, ap, ap₂, _∙_, subst, fun-ext}
-use mathlib.Core.Bool.{Bool, true, false, cond, _||_, false≢true}
-use lib.Dec.{eqb, eqb·suc-zero, eqb·zero-suc, eqb·suc-suc}
-use borrow.Author.Tests.{lt-ltb, le-ltb}
+use native.Mathlib.Numerals.{add-one}
+use mathlib.Core.Bool.{Bool, true, false, cond, _&&_, _||_, or-false, false≢true}
+use lib.Dec.{eqb, ltb, eqb·suc-zero, eqb·zero-suc, eqb·suc-suc}
+use borrow.Author.Tests.{lt-ltb, le-ltb, eq-eqb, ne-eqb}
 use Rattle.terms.specs.Limits.{mostTransactions}
 use lib.Pow.{pow-mono, pow-pos, pow-lt}
 use lib.Arith.{lt-one}
 use lib.Bits.{bitOr, bitAnd, or-shr, or-mod, or-add-and, and-le-r, or-lt}
 use lib.Count.{ones, ones-step, trailingZeros, under}
 use Rattle.laws.specs.Index.{one, countBelow, firstBelow}
-use Rattle.sets.specs.Sets.{mem, inserted}
+use Rattle.laws.proofs.Bools.{bool-cases}
+use Rattle.laws.proofs.Decisions.{same-or, lt-or}
+use Rattle.sets.specs.Sets.{mem, inserted, setOf}
 
 two-pos : 0 < 2
 two-pos = zero-lt-suc 1
@@ -132,3 +135,39 @@ trailing-first (suc n) x =
     ap (under (x % 2)) (trailing-first n (x / 2) ∙ ap (firstBelow n) (fun-ext (λ t. sym (mem-half x t))))
     ∙ digit-first (x % 2) (firstBelow n (λ t. mem x (suc t))) (mod-lt x two-pos)
     ∙ ap (λ (b : Bool). cond b 0 (suc (firstBelow n (λ t. mem x (suc t))))) (lowest-digit x)
+
+-- ---- the set of those of which a test holds
+
+pub set-of-none : (f : ℕ → Bool) → setOf 0 f ≡ 0
+unfolding setOf
+set-of-none f = refl
+
+pub set-of-more : (n : ℕ) (f : ℕ → Bool) → setOf (n + 1) f ≡ cond (f n) (inserted (setOf n f) n) (setOf n f)
+unfolding setOf
+set-of-more n f = rw add-one refl
+
+pub mem-inserted : (x k t : ℕ) → k < mostTransactions → mem (inserted x k) t ≡ (mem x t || eqb t k)
+mem-inserted x k t h = ap (λ (y : ℕ). mem y t) (inserted-in x k h) ∙ mem-insert x k t
+
+-- its members
+pub mem-set-of : (n : ℕ) (f : ℕ → Bool) (t : ℕ) → n ≤ mostTransactions → mem (setOf n f) t ≡ (ltb t n && f t)
+unfolding setOf
+mem-set-of zero f t h = mem-empty t ∙ sym (rw (le-ltb t 0 zero-le))
+mem-set-of (suc n) f t h =
+    let rest = mem-set-of n f t (omega arith) in
+    bool-cases (f n)
+    (λ e. rw e
+    (mem-inserted (setOf n f) n t h ∙ same-or t n
+    (λ q. rw (q, eq-eqb n n refl, lt-ltb n (suc n) (omega arith), e) (or-on (mem (setOf n f) n)))
+    (λ q. rw (ne-eqb t n q) (or-false (mem (setOf n f) t) ∙ rest ∙ ap (λ (b : Bool). b && f t) (below q)))))
+    (λ e. rw e
+    (same-or t n
+    (λ q. rest ∙ rw (q, le-ltb n n (omega arith), lt-ltb n (suc n) (omega arith), e))
+    (λ q. rest ∙ ap (λ (b : Bool). b && f t) (below q))))
+  where
+    or-on : (b : Bool) → (b || true) ≡ true
+    or-on true = refl
+    or-on false = refl
+
+    below : (t ≡ n → ⊥) → ltb t n ≡ ltb t (suc n)
+    below q = lt-or t n (λ l. rw (lt-ltb t n l, lt-ltb t (suc n) (omega arith))) (λ l. rw (le-ltb t n l, le-ltb t (suc n) (omega arith)))

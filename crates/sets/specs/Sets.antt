@@ -1,5 +1,5 @@
 -- Sets of transactions, held as the bits of one number (document 01, 'Closing': "sets of transactions are held as the bits of one number").
-use Prim.Native.Nat.{ℕ, _/_, _%_, _^_}
+use Prim.Native.Nat.{ℕ, zero, suc, _/_, _%_, _^_}
 use mathlib.Core.Bool.{Bool, cond}
 use lib.Bits.{bitOr}
 use lib.Dec.{eqb, ltb}
@@ -12,3 +12,8 @@ mem x t = eqb (x / 2 ^ t % 2) 1
 -- the set with t too; what is no transaction goes into no set
 unfoldable pub inserted : ℕ → ℕ → ℕ
 inserted x t = cond (ltb t mostTransactions) (bitOr x (2 ^ t)) x
+
+-- the set of the numbers below n of which f holds
+unfoldable pub setOf : ℕ → (ℕ → Bool) → ℕ
+setOf zero f = 0
+setOf (suc n) f = cond (f n) (inserted (setOf n f) n) (setOf n f)

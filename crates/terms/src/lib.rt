@@ -22,8 +22,8 @@ impl Book {
 
 // A saga of a book: its own number, which is the first of the numbers it owns, and how many steps it has.
 pub struct Saga {
-    pub first: usize,
-    pub steps: usize,
+    pub first: u16,
+    pub steps: u16,
 }
 
 impl Saga {

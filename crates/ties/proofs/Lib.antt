@@ -1,0 +1,6 @@
+-- Laws of operations and of the ties between them.
+pub mod OpsLaws
+pub mod TieLaws
+pub mod TableLaws
+pub mod RingLaws
+pub mod Promises

@@ -1,0 +1,90 @@
+-- The table of pairs, as it is filled tie by tie, and a row of it as a set.
+use Prim.Native.Nat.{ℕ, _+_, _<_}
+use mathlib.Core.Path.{_≡_, refl, sym, ap, ap₂, _∙_, fun-ext}
+use mathlib.Core.Bool.{Bool, true, false, _&&_, _||_, or-false, or-assoc}
+use mathlib.Core.List.{List, []}
+use lib.Dec.{eqb}
+use lib.ListN.{getD, set, replicate}
+use Rattle.laws.specs.Index.{anyBelow, tabulate, grid}
+use Rattle.laws.proofs.IndexLaws.{any-none, any-more, grid-same, grid-set, grid-at}
+use Rattle.terms.specs.Limits.{mostTransactions}
+use Rattle.sets.specs.Reach.{at}
+use Rattle.sets.specs.Sets.{mem, inserted}
+use Rattle.sets.proofs.SetLaws.{mem-insert, inserted-in}
+use Rattle.ties.specs.declared.Ops.{Ops}
+use Rattle.ties.specs.Operations.{opAt, size}
+use Rattle.ties.specs.Ties.{counts, edge, before, pairsOf}
+use Rattle.ties.proofs.TieLaws.{counts-small, before-among}
+
+-- by a tie whose later operation is one of the first n
+unfoldable pub beforeBy : Ops → ℕ → ℕ → ℕ → Bool
+beforeBy ops n a b = anyBelow n (λ q. anyBelow q (λ p. edge (opAt ops p) (opAt ops q) q a b))
+
+-- the same, and the ties of operation j to the first i
+abbrev pub into : Ops → ℕ → ℕ → ℕ → ℕ → Bool
+into ops j i a b = beforeBy ops j a b || anyBelow i (λ p. edge (opAt ops p) (opAt ops j) j a b)
+
+pub by-none : (ops : Ops) → replicate mostTransactions (replicate mostTransactions false) ≡ grid mostTransactions (beforeBy ops 0)
+unfolding beforeBy tabulate anyBelow
+by-none ops = refl
+
+pub by-all : (ops : Ops) (n : ℕ) → n ≡ size ops → grid mostTransactions (beforeBy ops n) ≡ pairsOf ops
+unfolding pairsOf before beforeBy
+by-all ops n e = ap (λ (m : ℕ). grid mostTransactions (beforeBy ops m)) e
+
+module _ (ops : Ops) (j : ℕ) where
+  pub into-none : grid mostTransactions (beforeBy ops j) ≡ grid mostTransactions (into ops j 0)
+  into-none =
+      grid-same mostTransactions (beforeBy ops j) (into ops j 0)
+      (λ a b. sym (ap (λ (t : Bool). beforeBy ops j a b || t) (any-none (λ p. edge (opAt ops p) (opAt ops j) j a b)) ∙ or-false (beforeBy ops j a b)))
+
+  pub into-all : grid mostTransactions (into ops j j) ≡ grid mostTransactions (beforeBy ops (j + 1))
+  unfolding beforeBy
+  into-all =
+      grid-same mostTransactions (into ops j j) (beforeBy ops (j + 1))
+      (λ a b. sym (any-more j (λ q. anyBelow q (λ p. edge (opAt ops p) (opAt ops q) q a b))))
+
+  module _ (i : ℕ) where
+    more : {v : Bool} → counts (opAt ops i) (opAt ops j) j ≡ v
+        → (a b : ℕ) → (into ops j i a b || (v && (eqb a (opAt ops i .responsible) && eqb b (opAt ops j .responsible)))) ≡ into ops j (i + 1) a b
+    unfolding edge
+    more h a b =
+        ap (λ (t : Bool). into ops j i a b || (t && (eqb a (opAt ops i .responsible) && eqb b (opAt ops j .responsible)))) (sym h)
+        ∙ or-assoc (beforeBy ops j a b) (anyBelow i (λ p. edge (opAt ops p) (opAt ops j) j a b)) (edge (opAt ops i) (opAt ops j) j a b)
+        ∙ ap (λ (t : Bool). beforeBy ops j a b || t) (sym (any-more i (λ p. edge (opAt ops p) (opAt ops j) j a b)))
+
+    -- the tie of i to j counts, and is marked
+    pub into-mark : counts (opAt ops i) (opAt ops j) j ≡ true
+        → set (grid mostTransactions (into ops j i)) (opAt ops i .responsible)
+        (set (getD (grid mostTransactions (into ops j i)) (opAt ops i .responsible) []) (opAt ops j .responsible) true)
+        ≡ grid mostTransactions (into ops j (i + 1))
+    into-mark h =
+        grid-set mostTransactions (into ops j i) (opAt ops i .responsible) (opAt ops j .responsible) (counts-small (opAt ops i) (opAt ops j) j h .0)
+        ∙ grid-same mostTransactions _ (into ops j (i + 1)) (more h)
+
+    -- it does not count
+    pub into-skip : counts (opAt ops i) (opAt ops j) j ≡ false → grid mostTransactions (into ops j i) ≡ grid mostTransactions (into ops j (i + 1))
+    into-skip h = grid-same mostTransactions (into ops j i) (into ops j (i + 1)) (λ a b. sym (or-false (into ops j i a b)) ∙ more h a b)
+
+-- the table read back
+pub pairs-at : (ops : Ops) → at (pairsOf ops) ≡ before ops
+unfolding pairsOf
+pairs-at ops = fun-ext (λ a. fun-ext (λ b. grid-at mostTransactions (before ops) a b ∙ before-among ops a b))
+
+-- ---- the set of a row, place by place
+
+-- k is one of the first t places at which the row is true
+abbrev pub chosen : List Bool → ℕ → ℕ → Bool
+chosen row t k = anyBelow t (λ b. getD row b false && eqb k b)
+
+module _ (row : List Bool) (x t : ℕ) (h : (k : ℕ) → mem x k ≡ chosen row t k) where
+  pub row-in : t < mostTransactions → getD row t false ≡ true → (k : ℕ) → mem (inserted x t) k ≡ chosen row (t + 1) k
+  row-in l e k =
+      ap (λ (s : ℕ). mem s k) (inserted-in x t l)
+      ∙ mem-insert x t k
+      ∙ ap₂ (λ (u v : Bool). u || (v && eqb k t)) (h k) (sym e)
+      ∙ sym (any-more t (λ b. getD row b false && eqb k b))
+
+  pub row-out : getD row t false ≡ false → (k : ℕ) → mem x k ≡ chosen row (t + 1) k
+  row-out e k =
+      sym (or-false (mem x k)) ∙ ap₂ (λ (u v : Bool). u || (v && eqb k t)) (h k) (sym e) ∙ sym (any-more t (λ b. getD row b false && eqb k b))

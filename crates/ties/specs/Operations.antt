@@ -1,0 +1,90 @@
+-- Accepted operations (document 01, 'States and who may act'): each is active, committed or aborted and has a responsible transaction.
+use Prim.Native.Nat.{ℕ, zero, suc, _+_, min}
+use mathlib.Core.Bool.{Bool, true, false, cond, _&&_}
+use mathlib.Core.List.{List}
+use lib.Dec.{ltb, eqb}
+use lib.ListN.{getD, set, replicate}
+use Rattle.ties.specs.declared.Mark.{Mark}
+use Rattle.ties.specs.declared.Mark.the-variants.{Read, Write}
+use Rattle.ties.specs.declared.Fate.{Fate}
+use Rattle.ties.specs.declared.Fate.the-variants.{Aborted, Active, Committed}
+use Rattle.ties.specs.declared.Operation.{Operation}
+use Rattle.ties.specs.declared.Ops.{Ops}
+
+-- accepted operations are numbered 0, 1, 2 and so on, at most 256 in a book
+abbrev pub mostOperations : ℕ
+mostOperations = 256
+
+abbrev pub isWrite : Mark → Bool
+isWrite Read = false
+isWrite Write = true
+
+abbrev pub isAborted : Fate → Bool
+isAborted Aborted = true
+isAborted Active = false
+isAborted Committed = false
+
+abbrev pub isActive : Fate → Bool
+isActive Aborted = false
+isActive Active = true
+isActive Committed = false
+
+abbrev pub isCommitted : Fate → Bool
+isCommitted Aborted = false
+isCommitted Active = false
+isCommitted Committed = true
+
+-- what stands where no operation was accepted: one that has ended, which nothing may end or change
+abbrev pub blank : Operation
+blank = record { object = 0; mark = Read; responsible = 0; fate = Aborted; ended = 0 }
+
+-- before the first operation
+abbrev pub noOps : Ops
+noOps = record { all = replicate mostOperations blank; count = 0 }
+
+abbrev pub opAt : Ops → ℕ → Operation
+opAt ops q = getD (ops .all) q blank
+
+-- how many operations were accepted; of a count that no book reaches, as many as there is room for
+abbrev pub size : Ops → ℕ
+size ops = min (ops .count) mostOperations
+
+-- t invokes an operation: t is responsible for it
+abbrev pub newOp : ℕ → ℕ → Mark → Operation
+newOp t object mark = record { object = object; mark = mark; responsible = t; fate = Active; ended = 0 }
+
+-- with one operation more, if there is room for it
+unfoldable pub made : Operation → Ops → Ops
+made op ops = cond (ltb (ops .count) mostOperations) (record { all = set (ops .all) (ops .count) op; count = ops .count + 1 }) ops
+
+-- "its invoker until it is delegated, then the last receiver"; an operation that has ended keeps its responsible transaction
+abbrev pub givenTo : ℕ → Operation → Operation
+givenTo receiver op =
+    cond (isActive (op .fate))
+    (record { object = op .object; mark = op .mark; responsible = receiver; fate = op .fate; ended = op .ended })
+    op
+
+-- operation q is delegated
+unfoldable pub given : ℕ → ℕ → Ops → Ops
+given q receiver ops = record { all = set (ops .all) q (givenTo receiver (opAt ops q)); count = ops .count }
+
+-- an active operation t is responsible for
+abbrev pub heldBy : ℕ → Operation → Bool
+heldBy t op = isActive (op .fate) && eqb (op .responsible) t
+
+-- the operation, ended in this fate when so many operations were accepted
+abbrev pub endedAs : Fate → ℕ → Operation → Operation
+endedAs fate accepted op =
+    record { object = op .object; mark = op .mark; responsible = op .responsible; fate = fate; ended = accepted }
+
+abbrev pub endedBy : ℕ → Fate → ℕ → Operation → Operation
+endedBy t fate accepted op = cond (heldBy t op) (endedAs fate accepted op) op
+
+-- the first n rewritten by f
+unfoldable pub changed : ℕ → (Operation → Operation) → List Operation → List Operation
+changed zero f l = l
+changed (suc n) f l = set (changed n f l) n (f (getD l n blank))
+
+-- "Commit or abort of t ends the active operations t is responsible for in the same way, and no others."
+unfoldable pub endedOps : ℕ → Fate → Ops → Ops
+endedOps t fate ops = record { all = changed (size ops) (endedBy t fate (size ops)) (ops .all); count = ops .count }
