@@ -171,3 +171,11 @@ mem-set-of (suc n) f t h =
 
     below : (t ≡ n → ⊥) → ltb t n ≡ ltb t (suc n)
     below q = lt-or t n (λ l. rw (lt-ltb t n l, lt-ltb t (suc n) (omega arith))) (λ l. rw (le-ltb t n l, le-ltb t (suc n) (omega arith)))
+
+-- x is the set of those below n
+module _ (f : ℕ → Bool) (n x : ℕ) (e : x ≡ setOf n f) where
+  pub set-of-in : f n ≡ true → inserted x n ≡ setOf (n + 1) f
+  set-of-in h = rw (set-of-more n f, h, e)
+
+  pub set-of-out : f n ≡ false → x ≡ setOf (n + 1) f
+  set-of-out h = rw (set-of-more n f, h) e

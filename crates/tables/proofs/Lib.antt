@@ -1,0 +1,14 @@
+-- Laws of the tables, and that reading accepts well formed tables only.
+pub mod KindLaws
+pub mod FieldLaws
+pub mod DependencyLaws
+pub mod SortLaws
+pub mod SagaLaws
+pub mod ReadingLaws
+pub mod FaultLaws
+pub mod WayLaws
+pub mod AcceptedLaws
+pub mod BeginningLaws
+pub mod RefusedLaws
+pub mod CasesHold
+pub mod PassLaws

@@ -1,0 +1,167 @@
+-- Reading the tables, in the code's own terms: one law for each way to go on or to stop.
+use Prim.Native.Nat.{ℕ, suc, _+_, _-_, _*_, _≤_, _<_}
+use mathlib.Core.Path.{_≡_, refl, ap}
+use mathlib.Core.Bool.{true, false}
+use mathlib.Core.List.{List}
+use lib.ListN.{set}
+use borrow.Author.Tests.{lt-ltb, le-ltb}
+use Rattle.terms.specs.Limits.{edition, mostSagas, mostSteps, mostTransactions, mostObjects, mostDependencies}
+use Rattle.terms.specs.declared.Refusal.{Refusal}
+use Rattle.terms.specs.declared.Refusal.the-variants.{BadEdition, BadCount, BadDependency}
+use Rattle.tables.specs.declared.Tables.{Tables}
+use Rattle.tables.specs.declared.Kind.{Kind}
+use Rattle.tables.specs.declared.Counted.{Counted}
+use Rattle.tables.specs.declared.Counted.the-variants.{Within, Stop}
+use Rattle.tables.specs.declared.SagasRead.{SagasRead}
+use Rattle.tables.specs.declared.Entry.{Entry}
+use Rattle.tables.specs.declared.Entry.the-variants.{Declares, Stops}
+use Rattle.tables.specs.declared.TablesAnswer.the-variants.{Read}
+use Rattle.tables.specs.Dependencies.{kindOf, entryHolds}
+use Rattle.tables.specs.Reading.{
+  emptyTables,
+  fieldAt,
+  fieldWithin,
+  sagasStopped,
+  sagasFrom,
+  refused,
+  stoppedEntry,
+  entryAt,
+  refusedEntry,
+  refusedField,
+  dependenciesFrom,
+  withCounts,
+  restFrom,
+  tablesOf,
+}
+
+-- ---- the sagas
+
+-- as the code writes it: the place of the new saga is a local
+abbrev pub withSagaAt : Tables → ℕ → ℕ → Tables
+withSagaAt t i n =
+    record { sagas = i + 1; steps = set (t .steps) i n; plain = t .plain; objects = t .objects; dependencies = t .dependencies; declared = t .declared }
+
+pub sagas-none : emptyTables .sagas ≡ 0
+unfolding emptyTables
+sagas-none = refl
+
+module _ (cap : ℕ) (s : List ℕ) (at sum : ℕ) (t : Tables) where
+  pub sagas-end : (k : ℕ) → k ≡ 0 → sagasFrom cap s k at sum t ≡ record { answer = Within sum at; tables = t }
+  unfolding sagasFrom
+  sagas-end k e = rw e
+
+  module _ (k j : ℕ) (e : k ≡ suc j) where
+    pub sagas-stop : (r : Refusal) (p : ℕ) → fieldWithin cap s at 1 mostSteps BadCount ≡ Stop r p → sagasFrom cap s k at sum t ≡ sagasStopped r p
+    unfolding sagasFrom
+    sagas-stop r p f = rw (e, f)
+
+    module _ (n next : ℕ) (f : fieldWithin cap s at 1 mostSteps BadCount ≡ Within n next) where
+      pub sagas-large : mostTransactions < sum + 2 * n → sagasFrom cap s k at sum t ≡ sagasStopped BadCount at
+      unfolding sagasFrom
+      sagas-large h = rw (e, f, lt-ltb mostTransactions (sum + 2 * n) h)
+
+      pub sagas-more : (i : ℕ) → t .sagas ≡ i → sum + 2 * n ≤ mostTransactions
+          → sagasFrom cap s k at sum t ≡ sagasFrom cap s j next (sum + 2 * n) (withSagaAt t i n)
+      unfolding sagasFrom
+      sagas-more i q h =
+          rw (e, f, le-ltb mostTransactions (sum + 2 * n) h) (ap (λ (x : ℕ). sagasFrom cap s j next (sum + 2 * n) (withSagaAt t x n)) q)
+
+-- ---- an entry's three fields
+
+module _ (cap : ℕ) (s : List ℕ) (at : ℕ) where
+  pub entry1 : (c : Counted) (r : Refusal) (p : ℕ) → c ≡ fieldAt cap s at → c ≡ Stop r p → stoppedEntry c ≡ entryAt cap s at
+  unfolding entryAt stoppedEntry
+  entry1 c r p e f = rw (← e, f)
+
+  module _ (d x : ℕ) (first : fieldAt cap s at ≡ Within d x) where
+    pub entry2 : (c : Counted) (r : Refusal) (p : ℕ) → c ≡ fieldAt cap s x → c ≡ Stop r p → stoppedEntry c ≡ entryAt cap s at
+    unfolding entryAt stoppedEntry
+    entry2 c r p e f = rw (first, ← e, f)
+
+    module _ (b y : ℕ) (second : fieldAt cap s x ≡ Within b y) where
+      pub entry3 : (c : Counted) (r : Refusal) (p : ℕ) → c ≡ fieldAt cap s y → c ≡ Stop r p → stoppedEntry c ≡ entryAt cap s at
+      unfolding entryAt stoppedEntry
+      entry3 c r p e f = rw (first, second, ← e, f)
+
+      pub entry4 : (k next : ℕ) → fieldAt cap s y ≡ Within k next → Declares d b k next ≡ entryAt cap s at
+      unfolding entryAt
+      entry4 k next third = rw (first, second, third)
+
+-- ---- the dependencies
+
+abbrev pub withEntryAt : Tables → ℕ → ℕ → ℕ → Kind → Tables
+withEntryAt t i d b k =
+    record {
+      sagas = t .sagas;
+      steps = t .steps;
+      plain = t .plain;
+      objects = t .objects;
+      dependencies = set (t .dependencies) i (record { dependent = d; base = b; kind = k });
+      declared = i + 1;
+    }
+
+module _ (cap : ℕ) (s : List ℕ) (n at : ℕ) (t : Tables) where
+  pub entries-end : (k : ℕ) → k ≡ 0 → dependenciesFrom cap s n k at t ≡ record { answer = Read at; tables = t }
+  unfolding dependenciesFrom
+  entries-end k e = rw e
+
+  module _ (k j : ℕ) (e : k ≡ suc j) where
+    pub entries-stop : (x : Entry) (r : Refusal) (p : ℕ) → x ≡ entryAt cap s at → x ≡ Stops r p → dependenciesFrom cap s n k at t ≡ refusedEntry x
+    unfolding dependenciesFrom refusedEntry
+    entries-stop x r p q f = rw (e, ← q, f)
+
+    module _ (d b kind next : ℕ) (f : entryAt cap s at ≡ Declares d b kind next) where
+      -- refused at the place p, which is the entry's own
+      pub entries-bad : (p : ℕ) → entryHolds t n d b kind ≡ false → p ≡ at → dependenciesFrom cap s n k at t ≡ refused BadDependency p
+      unfolding dependenciesFrom
+      entries-bad p h q = rw (e, f, h, q)
+
+      pub entries-more : (i : ℕ) (m : Kind) → t .declared ≡ i → m ≡ kindOf kind → entryHolds t n d b kind ≡ true
+          → dependenciesFrom cap s n k at t ≡ dependenciesFrom cap s n j next (withEntryAt t i d b m)
+      unfolding dependenciesFrom
+      entries-more i m q g h =
+          rw (e, f, h, g) (ap (λ (x : ℕ). dependenciesFrom cap s n j next (withEntryAt t x d b (kindOf kind))) q)
+
+-- ---- the whole: one law for each place where the chain can stop
+
+module _ (cap : ℕ) (s : List ℕ) (at sum : ℕ) (t : Tables) where
+  pub rest1 : (c : Counted) (r : Refusal) (p : ℕ) → c ≡ fieldWithin cap s at 0 (mostTransactions - sum) BadCount → c ≡ Stop r p
+      → refusedField c ≡ restFrom cap s at sum t
+  unfolding restFrom refusedField
+  rest1 c r p e f = rw (← e, f)
+
+  module _ (v x : ℕ) (a : fieldWithin cap s at 0 (mostTransactions - sum) BadCount ≡ Within v x) where
+    pub rest2 : (c : Counted) (r : Refusal) (p : ℕ) → c ≡ fieldWithin cap s x 0 mostObjects BadCount → c ≡ Stop r p
+        → refusedField c ≡ restFrom cap s at sum t
+    unfolding restFrom refusedField
+    rest2 c r p e f = rw (a, ← e, f)
+
+    module _ (m y : ℕ) (b : fieldWithin cap s x 0 mostObjects BadCount ≡ Within m y) where
+      pub rest3 : (c : Counted) (r : Refusal) (p : ℕ) → c ≡ fieldWithin cap s y 0 mostDependencies BadCount → c ≡ Stop r p
+          → refusedField c ≡ restFrom cap s at sum t
+      unfolding restFrom refusedField
+      rest3 c r p e f = rw (a, b, ← e, f)
+
+      pub rest4 : (k z : ℕ) → fieldWithin cap s y 0 mostDependencies BadCount ≡ Within k z
+          → dependenciesFrom cap s (sum + v) k z (withCounts t v m) ≡ restFrom cap s at sum t
+      unfolding restFrom
+      rest4 k z e = rw (a, b, e)
+
+module _ (cap : ℕ) (s : List ℕ) where
+  pub all1 : (c : Counted) (r : Refusal) (p : ℕ) → c ≡ fieldWithin cap s 0 edition edition BadEdition → c ≡ Stop r p → refusedField c ≡ tablesOf cap s
+  unfolding tablesOf refusedField
+  all1 c r p e f = rw (← e, f)
+
+  module _ (v x : ℕ) (a : fieldWithin cap s 0 edition edition BadEdition ≡ Within v x) where
+    pub all2 : (c : Counted) (r : Refusal) (p : ℕ) → c ≡ fieldWithin cap s x 0 mostSagas BadCount → c ≡ Stop r p → refusedField c ≡ tablesOf cap s
+    unfolding tablesOf refusedField
+    all2 c r p e f = rw (a, ← e, f)
+
+    module _ (g y : ℕ) (b : fieldWithin cap s x 0 mostSagas BadCount ≡ Within g y) (read : SagasRead) (q : read ≡ sagasFrom cap s g y 0 emptyTables) where
+      pub all3 : (r : Refusal) (p : ℕ) → read .answer ≡ Stop r p → refusedField (read .answer) ≡ tablesOf cap s
+      unfolding tablesOf refusedField
+      all3 r p f = rw (a, b, ← q, f)
+
+      pub all4 : (sum z : ℕ) → read .answer ≡ Within sum z → restFrom cap s z sum (read .tables) ≡ tablesOf cap s
+      unfolding tablesOf
+      all4 sum z f = rw (a, b, ← q, f)

@@ -1,0 +1,43 @@
+-- Refused tables are the empty tables, and the refusal is one of 2 to 6 at a place of the book, or its end.
+use Prim.Native.Nat.{ℕ, zero, suc, _+_, _≤_}
+use native.Mathlib.Omega.{arith}
+use mathlib.Core.Path.{_≡_, refl}
+use mathlib.Core.List.{List}
+use lib.ListN.{length}
+use Rattle.terms.specs.Limits.{mostSagas, mostDependencies}
+use Rattle.terms.specs.declared.Refusal.{Refusal}
+use Rattle.terms.specs.declared.Refusal.the-variants.{BadCount}
+use Rattle.tables.specs.declared.Tables.{Tables}
+use Rattle.tables.specs.declared.TablesAnswer.the-variants.{Refused}
+use Rattle.tables.specs.declared.TablesRead.{TablesRead}
+use Rattle.tables.specs.Reading.{emptyTables, sagasFrom, refused, withEntry, dependenciesFrom, withCounts, tablesOf}
+use Rattle.tables.proofs.FaultLaws.{Faulty}
+use Rattle.tables.proofs.WayLaws.{field-next, within-next, sagas-next, by-entry, by-rest, by-tables}
+
+module _ (cap : ℕ) (s : List ℕ) (r : Refusal) (p : ℕ) where
+  abbrev Blank : TablesRead → Type 0
+  Blank x = x .answer ≡ Refused r p → (x .tables ≡ emptyTables) × Faulty s r p
+
+  blank-stop : (q : Refusal) (at : ℕ) → Faulty s q at → Blank (refused q at)
+  blank-stop q at f e = let a : q ≡ r = cc in let b : at ≡ p = cc in (refl, rw (← a, ← b) f)
+
+  blank-entries : (n k at : ℕ) (t : Tables) → at ≤ length s → Blank (dependenciesFrom cap s n k at t)
+  unfolding dependenciesFrom
+  blank-entries n zero at t b = λ e. let z : _≡_ {A = ℕ} 0 1 = cc in absurd (omega arith)
+  blank-entries n (suc k) at t b =
+      by-entry cap s n k at t Blank b blank-stop
+      (λ d b kind x y next f₁ f₂ f₃ h. blank-entries n k next (withEntry t d b kind) (field-next cap s y kind next f₃ .1))
+
+  blank : Blank (tablesOf cap s)
+  blank =
+      by-tables cap s Blank blank-stop
+      (λ e g x y sum z f₁ f₂ f₃.
+      let t = sagasFrom cap s g y 0 emptyTables .tables in
+      by-rest cap s z sum t Blank (sagas-next cap s g y 0 emptyTables sum z (within-next cap s x 0 mostSagas BadCount g y f₂ .1) f₃ .1) blank-stop
+      (λ q m k u v w h₁ h₂ h₃. blank-entries (sum + q) k w (withCounts t q m) (within-next cap s v 0 mostDependencies BadCount k w h₃ .1)))
+
+  pub refused-empty : tablesOf cap s .answer ≡ Refused r p → tablesOf cap s .tables ≡ emptyTables
+  refused-empty e = blank e .0
+
+  pub refused-number : tablesOf cap s .answer ≡ Refused r p → Faulty s r p
+  refused-number e = blank e .1
