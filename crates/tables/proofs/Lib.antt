@@ -10,5 +10,4 @@ pub mod WayLaws
 pub mod AcceptedLaws
 pub mod BeginningLaws
 pub mod RefusedLaws
-pub mod CasesHold
 pub mod PassLaws

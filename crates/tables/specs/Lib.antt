@@ -3,4 +3,3 @@ pub mod Sorts
 pub mod Dependencies
 pub mod Reading
 pub mod Accepted
-pub mod Cases

@@ -1,0 +1,10 @@
+-- Laws of whole books, and demands 1 and 2.
+pub mod ReadLaws
+pub mod ItemTags
+pub mod OpeningLaws
+pub mod LongestLaws
+pub mod RunLaws
+pub mod WholeLaws
+pub mod PackingLaws
+pub mod DemandsHold
+pub mod CasesHold

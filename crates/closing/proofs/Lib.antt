@@ -1,0 +1,13 @@
+-- Demand 3, from one saga by itself up to any run of events.
+pub mod Moves
+pub mod OutstandingLaws
+pub mod StepLaws
+pub mod ReturnLaws
+pub mod Shapes
+pub mod OwnEvents
+pub mod Acts
+pub mod Order
+pub mod UndoTies
+pub mod ClosingAccepted
+pub mod DemandHolds
+pub mod SettlingHolds

@@ -1,0 +1,10 @@
+-- Laws of judging.
+pub mod PhaseLaws
+pub mod StateLaws
+pub mod RuleLaws
+pub mod RunLaws
+pub mod Invariants
+pub mod Endings
+pub mod Responsible
+pub mod TiesMean
+pub mod PromisesHold

@@ -1,0 +1,58 @@
+-- Saga rules, declared dependencies and lines, in the terms in which the code finds them.
+use Prim.Native.Nat.{ℕ, _-_, _≤_, _<_, min}
+use native.Mathlib.Omega.{arith}
+use mathlib.Core.Path.{_≡_, sym, ap, _∙_}
+use mathlib.Core.Bool.{Bool, false, not, _&&_, _||_, and-true}
+use mathlib.Core.Logic.{_≢_}
+use mathlib.Core.List.{List}
+use lib.Dec.{ltb}
+use borrow.Author.Tests.{ltb-true, le-leb, lt-leb, eq-eqb, ne-eqb}
+use Rattle.laws.proofs.Bools.{off-not, off-or}
+use Rattle.terms.specs.Limits.{mostObjects}
+use Rattle.ties.specs.Operations.{size}
+use Rattle.ties.specs.declared.Ops.{Ops}
+use Rattle.tables.specs.declared.Dependency.{Dependency}
+use Rattle.tables.specs.declared.Tables.{Tables}
+use Rattle.judge.specs.Judge.{unknown, unknownObject}
+use Rattle.judge.specs.Rules.{barredBy, kindBars, stepBegins}
+use Rattle.judge.specs.States.{isActive, isCommitted, phaseOf}
+use Rattle.judge.specs.declared.Phase.{Phase}
+use Rattle.judge.specs.declared.Transaction.{Transaction}
+
+-- ---- step i of a saga: s is the phase found for the saga, e for the step before it, and a and b what their tests say
+
+module _ (P : ℕ → Phase) (i : ℕ) {s : Phase} {a : Bool} (saga : s ≡ P 0) (active : a ≡ isActive s) where
+  pub first-step : i ≤ 1 → a ≡ stepBegins P i
+  first-step h = rw (le-leb i 1 h, active, saga) (sym (and-true (isActive (P 0))))
+
+  pub later-step : {e : Phase} {b : Bool} → e ≡ P (i - 1) → b ≡ isCommitted e → 1 < i → (a && b) ≡ stepBegins P i
+  later-step earlier committed h = rw (lt-leb i 1 h, active, saga, committed, earlier)
+
+-- ---- one declared dependency d
+
+module _ (begins : Bool) (ts : List Transaction) (t : ℕ) (d : Dependency) where
+  -- it says nothing of another transaction
+  pub other-dependent : d .dependent ≢ t → false ≡ barredBy begins ts t d
+  other-dependent h = rw (ne-eqb (d .dependent) t h)
+
+  -- of t it says what its kind says: p is the phase found for its base, b what the test of its kind says
+  pub own-dependent : {p : Phase} {b : Bool} → d .dependent ≡ t → p ≡ phaseOf ts (d .base) → b ≡ kindBars begins (d .kind) p
+      → b ≡ barredBy begins ts t d
+  own-dependent e base bars = rw (eq-eqb (d .dependent) t e) (bars ∙ ap (kindBars begins (d .kind)) base)
+
+-- ---- lines that were passed: what they say of the numbers of an event
+
+-- an object is one of the 32
+pub object-small : (tables : Tables) (t o : ℕ) → (unknown tables t || unknownObject tables o) ≡ false → o < mostObjects
+object-small tables t o off =
+    let n = min (tables .objects) mostObjects in
+    let l = ltb-true o n (off-not (ltb o n) (off-or (unknown tables t) (unknownObject tables o) off .1)) in
+    omega arith
+
+-- an operation to delegate was accepted
+pub operation-known : (tables : Tables) (ops : Ops) (t r q : ℕ)
+    → (unknown tables t || (unknown tables r || not (ltb q (size ops)))) ≡ false → q < size ops
+operation-known tables ops t r q off =
+    let late = not (ltb q (size ops)) in
+    let rest = off-or (unknown tables t) (unknown tables r || late) off .1 in
+    ltb-true q (size ops) (off-not (ltb q (size ops)) (off-or (unknown tables r) late rest .1))

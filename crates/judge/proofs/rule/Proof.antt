@@ -1,0 +1,75 @@
+use mathlib.Core.Path.{sym, ap, _∙_}
+use Rattle.judge.specs.Judge.{rulingOf}
+use borrow.Author.Needs.{needs}
+use Rattle.judge.proofs.rule.Statement.{statement}
+use Rattle.judge.proofs.rule.Tie as tie
+
+enum-known-event : tie.Need-enum-known-event
+enum-known-event c = search needs
+
+begin-requires : tie.Need-begin-requires
+begin-requires c κs = search needs
+
+enum-known-event-2 : tie.Need-enum-known-event-2
+enum-known-event-2 c = search needs
+
+commit-requires : tie.Need-commit-requires
+commit-requires c κs = search needs
+
+enum-known-event-3 : tie.Need-enum-known-event-3
+enum-known-event-3 c = search needs
+
+abort-requires : tie.Need-abort-requires
+abort-requires c κs = search needs
+
+enum-known-event-4 : tie.Need-enum-known-event-4
+enum-known-event-4 c = search needs
+
+operation-requires : tie.Need-operation-requires
+operation-requires c κs = search needs
+
+enum-known-event-5 : tie.Need-enum-known-event-5
+enum-known-event-5 c = search needs
+
+delegate-requires : tie.Need-delegate-requires
+delegate-requires c κs = search needs
+
+returns : tie.Need-returns
+unfolding rulingOf
+returns c = c .begin .ensures ∙ ap (rulingOf (c .before .before .before .before .before .before .args .tables) (c .before .before .before .before .before .before .args .state)) (sym (c .before .before .event .given .1))
+
+returns-2 : tie.Need-returns-2
+unfolding rulingOf
+returns-2 c = c .commit .ensures ∙ ap (rulingOf (c .before .before .before .before .before .before .args .tables) (c .before .before .before .before .before .before .args .state)) (sym (c .before .before .event2 .given .1))
+
+returns-3 : tie.Need-returns-3
+unfolding rulingOf
+returns-3 c = c .abort .ensures ∙ ap (rulingOf (c .before .before .before .before .before .before .args .tables) (c .before .before .before .before .before .before .args .state)) (sym (c .before .before .event3 .given .1))
+
+returns-4 : tie.Need-returns-4
+unfolding rulingOf
+returns-4 c = c .operation .ensures ∙ ap (rulingOf (c .before .before .before .before .before .before .args .tables) (c .before .before .before .before .before .before .args .state)) (sym (c .before .before .event4 .given .1))
+
+returns-5 : tie.Need-returns-5
+unfolding rulingOf
+returns-5 c = c .delegate .ensures ∙ ap (rulingOf (c .before .before .before .before .before .before .args .tables) (c .before .before .before .before .before .before .args .state)) (sym (c .before .before .event5 .given .1))
+
+pub rule-spec : {M : Type 1} → statement M
+rule-spec =
+    tie.close
+    (tie.spec
+    enum-known-event
+    begin-requires
+    enum-known-event-2
+    commit-requires
+    enum-known-event-3
+    abort-requires
+    enum-known-event-4
+    operation-requires
+    enum-known-event-5
+    delegate-requires
+    returns
+    returns-2
+    returns-3
+    returns-4
+    returns-5)

@@ -1,0 +1,167 @@
+-- Judging one event (document 01, 'What comes back'): for each event one list of lines in the order of judging; the verdict is the first
+-- line that holds; what an accepted event changes; the state after it.
+use Prim.Native.Nat.{ℕ, min}
+use mathlib.Core.Bool.{Bool, true, false, not, _&&_, _||_}
+use mathlib.Core.List.{List, [], _∷_}
+use lib.Dec.{ltb, leb, eqb}
+use Rattle.laws.specs.Lines.{Line, line, firstLine}
+use Rattle.terms.specs.Limits.{mostObjects}
+use Rattle.terms.specs.declared.Refusal.{Refusal}
+use Rattle.terms.specs.declared.Refusal.the-variants.{
+  NotInTables,
+  NeverDoes,
+  NotIdle,
+  NotActive,
+  NotResponsible,
+  SagaRule,
+  DependencyRule,
+  DirtyRead,
+  OnRing,
+  MustWait,
+  Full,
+}
+use Rattle.terms.specs.declared.Verdict.{Verdict}
+use Rattle.terms.specs.declared.Verdict.the-variants.{Accepted, Refused}
+use Rattle.ties.specs.Operations.{mostOperations, opAt, size, newOp, made, given, endedOps}
+use Rattle.ties.specs.Ties.{onRing, dirty, mustWait}
+use Rattle.ties.specs.declared.Mark.{Mark}
+use Rattle.ties.specs.declared.Fate.the-variants.{Committed as FateCommitted, Aborted as FateAborted}
+use Rattle.ties.specs.declared.Ops.{Ops}
+use Rattle.tables.specs.Sorts.{sortOf, isKnown, isSaga, isUndo}
+use Rattle.tables.specs.declared.Sort.{Sort}
+use Rattle.tables.specs.declared.Tables.{Tables}
+use Rattle.judge.specs.declared.Phase.the-variants.{Active, Committed, Aborted}
+use Rattle.judge.specs.declared.Transaction.{Transaction}
+use Rattle.judge.specs.declared.State.{State}
+use Rattle.judge.specs.declared.Event.{Event}
+use Rattle.judge.specs.declared.Event.the-variants.{Begin, Commit, Abort, Operation as Invoke, Delegate}
+use Rattle.judge.specs.declared.Change.{Change}
+use Rattle.judge.specs.declared.Change.the-variants.{Nothing, Enters, Ends, Makes, Gives}
+use Rattle.judge.specs.declared.Ruling.{Ruling}
+use Rattle.judge.specs.declared.Judged.{Judged}
+use Rattle.judge.specs.States.{isIdle, isActive, phaseOf, entered}
+use Rattle.judge.specs.Rules.{beginBarred, commitBarred, abortBarred, declaredBars}
+
+-- ---- the tests of the lines
+
+abbrev pub unknown : Tables → ℕ → Bool
+unknown tables t = not (isKnown (sortOf tables t))
+
+-- no more objects than there may be, whatever the tables say
+abbrev pub unknownObject : Tables → ℕ → Bool
+unknownObject tables o = not (ltb o (min (tables .objects) mostObjects))
+
+abbrev pub inactive : List Transaction → ℕ → Bool
+inactive ts t = not (isActive (phaseOf ts t))
+
+-- "neither S nor an undo gives or receives a delegation"
+abbrev pub noParty : Sort → Bool
+noParty x = isSaga x || isUndo x
+
+-- ---- the lines of each event
+
+abbrev pub beginLines : Tables → List Transaction → ℕ → List (Line Refusal)
+beginLines tables ts t =
+    line NotInTables (unknown tables t)
+    ∷ line NotIdle (not (isIdle (phaseOf ts t)))
+    ∷ line SagaRule (beginBarred ts (sortOf tables t))
+    ∷ line DependencyRule (declaredBars true tables ts t)
+    ∷ []
+
+abbrev pub commitLines : Tables → List Transaction → Ops → ℕ → List (Line Refusal)
+commitLines tables ts ops t =
+    line NotInTables (unknown tables t)
+    ∷ line NotActive (inactive ts t)
+    ∷ line SagaRule (commitBarred ts (sortOf tables t))
+    ∷ line DependencyRule (declaredBars false tables ts t)
+    ∷ line DirtyRead (dirty ops t)
+    ∷ line OnRing (onRing ops t)
+    ∷ []
+
+-- "an undo can't abort"
+abbrev pub abortLines : Tables → List Transaction → ℕ → List (Line Refusal)
+abortLines tables ts t =
+    line NotInTables (unknown tables t)
+    ∷ line NeverDoes (isUndo (sortOf tables t))
+    ∷ line NotActive (inactive ts t)
+    ∷ line SagaRule (abortBarred ts (sortOf tables t))
+    ∷ []
+
+-- "S invokes no operation"
+abbrev pub operationLines : Tables → List Transaction → Ops → ℕ → ℕ → Mark → List (Line Refusal)
+operationLines tables ts ops t o m =
+    line NotInTables (unknown tables t || unknownObject tables o)
+    ∷ line NeverDoes (isSaga (sortOf tables t))
+    ∷ line NotActive (inactive ts t)
+    ∷ line MustWait (isUndo (sortOf tables t) && mustWait ops t o m)
+    ∷ line Full (leb mostOperations (ops .count))
+    ∷ []
+
+-- "No transaction delegates to itself."
+abbrev pub delegateLines : Tables → List Transaction → Ops → ℕ → ℕ → ℕ → List (Line Refusal)
+delegateLines tables ts ops t r q =
+    line NotInTables (unknown tables t || (unknown tables r || not (ltb q (size ops))))
+    ∷ line NeverDoes (noParty (sortOf tables t) || (noParty (sortOf tables r) || eqb t r))
+    ∷ line NotActive (inactive ts t || inactive ts r)
+    ∷ line NotResponsible (not (eqb (opAt ops q .responsible) t))
+    ∷ []
+
+abbrev pub lines : Tables → State → Event → List (Line Refusal)
+lines tables s (Begin t) = beginLines tables (s .transactions) t
+lines tables s (Commit t) = commitLines tables (s .transactions) (s .ops) t
+lines tables s (Abort t) = abortLines tables (s .transactions) t
+lines tables s (Invoke t o m) = operationLines tables (s .transactions) (s .ops) t o m
+lines tables s (Delegate t r q) = delegateLines tables (s .transactions) (s .ops) t r q
+
+-- the first line that holds
+abbrev pub verdictBy : List (Line Refusal) → Verdict
+verdictBy ls = firstLine Refused Accepted ls
+
+unfoldable pub verdictOf : Tables → State → Event → Verdict
+verdictOf tables s e = verdictBy (lines tables s e)
+
+-- ---- what an accepted event changes
+
+abbrev pub changeOf : Event → Change
+changeOf (Begin t) = Enters t Active
+changeOf (Commit t) = Ends t Committed FateCommitted
+changeOf (Abort t) = Ends t Aborted FateAborted
+changeOf (Invoke t o m) = Makes (newOp t o m)
+changeOf (Delegate t r q) = Gives q r
+
+-- a refused event changes nothing
+abbrev pub changeBy : Verdict → Change → Change
+changeBy Accepted c = c
+changeBy (Refused r) c = Nothing
+
+abbrev pub refusedBy : Refusal → Ruling
+refusedBy r = record { verdict = Refused r; change = Nothing }
+
+abbrev pub ruledBy : List (Line Refusal) → Change → Ruling
+ruledBy ls c = record { verdict = verdictBy ls; change = changeBy (verdictBy ls) c }
+
+unfoldable pub rulingOf : Tables → State → Event → Ruling
+rulingOf tables s e = ruledBy (lines tables s e) (changeOf e)
+
+-- ---- the state after a change: over transactions, and over operations
+
+abbrev pub transactionsAfter : Change → List Transaction → List Transaction
+transactionsAfter Nothing ts = ts
+transactionsAfter (Enters t p) ts = entered p t ts
+transactionsAfter (Ends t p fate) ts = entered p t ts
+transactionsAfter (Makes op) ts = ts
+transactionsAfter (Gives q r) ts = ts
+
+abbrev pub opsAfter : Change → Ops → Ops
+opsAfter Nothing ops = ops
+opsAfter (Enters t p) ops = ops
+opsAfter (Ends t p fate) ops = endedOps t fate ops
+opsAfter (Makes op) ops = made op ops
+opsAfter (Gives q r) ops = given q r ops
+
+unfoldable pub stateAfter : Change → State → State
+stateAfter c s = record { transactions = transactionsAfter c (s .transactions); ops = opsAfter c (s .ops) }
+
+-- verdict and state in one value
+unfoldable pub judged : Tables → State → Event → Judged
+judged tables s e = record { verdict = rulingOf tables s e .verdict; state = stateAfter (rulingOf tables s e .change) s }

@@ -1,0 +1,58 @@
+-- What is promised of judging, one event and any run of events.
+use Prim.Native.Nat.{ℕ, _<_}
+use mathlib.Core.Path.{_≡_}
+use mathlib.Core.Bool.{Bool, true, false, cond, _&&_}
+use mathlib.Core.Logic.{_↔_}
+use mathlib.Core.List.{List}
+use Rattle.laws.specs.Lines.{Off, FirstIs}
+use Rattle.terms.specs.declared.Refusal.{Refusal}
+use Rattle.terms.specs.declared.Verdict.the-variants.{Accepted, Refused}
+use Rattle.ties.specs.Operations.{isActive as isActiveOperation, opAt, size, heldBy, endedAs}
+use Rattle.ties.specs.Ties.{conflict, tied}
+use Rattle.ties.specs.declared.Fate.{Fate}
+use Rattle.ties.specs.declared.Fate.the-variants.{Committed, Aborted}
+use Rattle.tables.specs.declared.Tables.{Tables}
+use Rattle.judge.specs.declared.State.{State}
+use Rattle.judge.specs.declared.Event.{Event}
+use Rattle.judge.specs.declared.Event.the-variants.{Commit, Abort}
+use Rattle.judge.specs.States.{isActive, phaseOf, emptyState}
+use Rattle.judge.specs.Judge.{lines, judged}
+use Rattle.judge.specs.Histories.{run, reached, history, responsibleIn, whenMade}
+
+-- one event, in any state
+pub record OneEvent (tables : Tables) (s : State) (e : Event) : Type 0 where
+  -- it is accepted exactly when no line holds
+  pub accepted : (judged tables s e .verdict ≡ Accepted) ↔ Off (lines tables s e)
+  -- each refusal is given exactly when its line holds and none before it does
+  pub refused : (r : Refusal) → (judged tables s e .verdict ≡ Refused r) ↔ FirstIs r (lines tables s e)
+  -- a refused event leaves all transactions, operations and responsibilities as they stood
+  pub unchanged : (r : Refusal) → judged tables s e .verdict ≡ Refused r → judged tables s e .state ≡ s
+
+-- an operation after t has ended: ended in the same way if it was active and t responsible for it, else as it was
+abbrev pub EndsWith : State → State → ℕ → Fate → Type 0
+EndsWith before after t fate =
+    (q : ℕ) → q < size (before .ops)
+    → opAt (after .ops) q ≡ cond (heldBy t (opAt (before .ops) q)) (endedAs fate (size (before .ops)) (opAt (before .ops) q)) (opAt (before .ops) q)
+
+-- any run of events, refused ones dropped
+pub record AnyRun (tables : Tables) (es : List Event) : Type 0 where
+  -- "An operation's responsible transaction is its invoker until it is delegated, then the last receiver."
+  pub responsible : (q : ℕ) → q < size (reached tables es .ops)
+      → opAt (reached tables es .ops) q .responsible ≡ responsibleIn (history tables es) q
+  -- "Operations p and q, p earlier, on the same object, at least one a write, are tied if p was active when q was accepted."
+  pub ties : (p q : ℕ) → p < q → q < size (reached tables es .ops)
+      → tied (reached tables es .ops) p q
+      ≡ (conflict (opAt (reached tables es .ops) p) (opAt (reached tables es .ops) q .object) (opAt (reached tables es .ops) q .mark)
+      && isActiveOperation (opAt (whenMade tables emptyState es q .ops) p .fate))
+  -- an active operation's responsible transaction is active
+  pub active : (q : ℕ) → q < size (reached tables es .ops) → isActiveOperation (opAt (reached tables es .ops) q .fate) ≡ true
+      → isActive (phaseOf (reached tables es .transactions) (opAt (reached tables es .ops) q .responsible)) ≡ true
+  -- "Commit or abort of t ends the active operations t is responsible for in the same way, and no others."
+  pub commits : (t : ℕ) → judged tables (reached tables es) (Commit t) .verdict ≡ Accepted
+      → EndsWith (reached tables es) (judged tables (reached tables es) (Commit t) .state) t Committed
+  pub aborts : (t : ℕ) → judged tables (reached tables es) (Abort t) .verdict ≡ Accepted
+      → EndsWith (reached tables es) (judged tables (reached tables es) (Abort t) .state) t Aborted
+
+pub record JudgePromises : Type 0 where
+  pub one-event : (tables : Tables) (s : State) (e : Event) → OneEvent tables s e
+  pub any-run : (tables : Tables) (es : List Event) → AnyRun tables es
