@@ -3,6 +3,7 @@
 
 mod aim;
 pub mod books;
+pub mod cases;
 pub mod counts;
 mod damage;
 mod draft;

@@ -1,4 +1,4 @@
--- The definitions that the contracts of `book` cite, and demands 1 and 2.
+-- The definitions that the contracts of `book` cite, demands 1 and 2, and the proved cases.
 pub mod Reading
 pub mod Packing
 pub mod Demands

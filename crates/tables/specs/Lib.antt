@@ -1,4 +1,4 @@
--- The definitions that the contracts of `tables` cite, what accepted tables are, and the proved cases.
+-- The definitions that the contracts of `tables` cite, and what accepted tables are.
 pub mod Sorts
 pub mod Dependencies
 pub mod Reading

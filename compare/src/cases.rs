@@ -1,0 +1,233 @@
+//! Cases to ask two programs, how they are asked, and what the second program
+//! answers.
+
+use crate::books::{book, field_list};
+use std::fmt::Write;
+
+const MOST_ROOM: usize = 65_536;
+
+/// What is asked: a book to be read, or fields to be written, and the size of
+/// the lent room.
+#[derive(Clone, Debug, PartialEq, Eq)]
+pub enum Case {
+    Book(Vec<u8>, usize),
+    Fields(Vec<u16>, usize),
+}
+
+impl Case {
+    fn letter(&self) -> u8 {
+        match self {
+            Case::Book(..) => b'b',
+            Case::Fields(..) => b'w',
+        }
+    }
+
+    fn room(&self) -> usize {
+        match self {
+            Case::Book(_, room) | Case::Fields(_, room) => *room,
+        }
+    }
+
+    fn bytes(&self) -> Vec<u8> {
+        match self {
+            Case::Book(book, _) => book.clone(),
+            Case::Fields(fields, _) => fields.iter().flat_map(|f| f.to_le_bytes()).collect(),
+        }
+    }
+
+    /// What the second program answers.
+    pub fn answer(&self) -> Vec<u8> {
+        match self {
+            Case::Book(book, room) => book_answer(book, *room),
+            Case::Fields(fields, room) => write_answer(fields, *room),
+        }
+    }
+}
+
+fn three(number: usize) -> [u8; 3] {
+    let [low, middle, high, ..] = number.to_le_bytes();
+    [low, middle, high]
+}
+
+/// All cases as one input: how many, then each with its letter, room, length
+/// and bytes.
+pub fn question(cases: &[Case]) -> Vec<u8> {
+    let mut input = three(cases.len()).to_vec();
+    for case in cases {
+        let bytes = case.bytes();
+        input.push(case.letter());
+        input.extend(three(case.room()));
+        input.extend(three(bytes.len()));
+        input.extend(bytes);
+    }
+    input
+}
+
+/// The line that stands before the answer to a case.
+pub fn heading(index: usize) -> Vec<u8> {
+    format!("== case {index}\n").into_bytes()
+}
+
+fn refused_line(refused: second::Refused) -> String {
+    format!(
+        "refused {} {} {}\n",
+        refused.number, refused.events, refused.place
+    )
+}
+
+fn book_answer(book: &[u8], room: usize) -> Vec<u8> {
+    let mut text = second::listing(book);
+    let put = "a text takes every line";
+    writeln!(text, "opening {}", second::opening(book).len()).expect(put);
+    let report = second::report(&second::read(book));
+    writeln!(text, "active {} lowest {}", report.active, report.lowest).expect(put);
+    for (earlier, row) in report.pairs.iter().enumerate() {
+        for later in (0..64).filter(|later| row >> later & 1 == 1) {
+            writeln!(text, "{earlier} {later}").expect(put);
+        }
+    }
+    let mut fields = vec![0; room];
+    match second::unpack(book, &mut fields) {
+        Ok(count) => {
+            writeln!(text, "unpacked {count}").expect(put);
+            for field in &fields[..count] {
+                writeln!(text, "{field}").expect(put);
+            }
+        }
+        Err(refused) => text += &refused_line(refused),
+    }
+    text.into_bytes()
+}
+
+fn write_answer(fields: &[u16], room: usize) -> Vec<u8> {
+    let mut bytes = vec![0; room];
+    match second::write(fields, &mut bytes) {
+        Ok(count) => {
+            let mut answer = format!("written {count}\n").into_bytes();
+            answer.extend_from_slice(&bytes[..count]);
+            answer.push(b'\n');
+            answer
+        }
+        Err(refused) => refused_line(refused).into_bytes(),
+    }
+}
+
+/// The cases of a seed: books, and a list of fields after every fourth. Every
+/// third has a room that is about as large as needed.
+pub fn made(seed: u64, count: u64) -> Vec<Case> {
+    let mut cases = Vec::new();
+    for index in 0..count {
+        let bytes = book(seed, index).bytes;
+        let room = room(index, bytes.len());
+        cases.push(Case::Book(bytes, room));
+        if index % 4 == 0 {
+            let fields = field_list(seed, index);
+            let room = self::room(index, fields.len());
+            cases.push(Case::Fields(fields, room));
+        }
+    }
+    cases
+}
+
+fn room(index: u64, about: usize) -> usize {
+    if index % 3 == 0 {
+        (about + index as usize / 3 % 3)
+            .saturating_sub(1)
+            .min(MOST_ROOM)
+    } else {
+        MOST_ROOM
+    }
+}
+
+/// The cases of a text: see the head of `fixed.txt`.
+pub fn fixed(text: &str) -> Result<Vec<Case>, String> {
+    text.lines()
+        .enumerate()
+        .filter(|(_, line)| !line.trim().is_empty() && !line.starts_with('#'))
+        .map(|(at, line)| fixed_case(line).ok_or_else(|| format!("line {}: {line}", at + 1)))
+        .collect()
+}
+
+fn fixed_case(line: &str) -> Option<Case> {
+    let (line, room) = match line.split_once('/') {
+        Some((front, size)) => (front, size.trim().parse().ok()?),
+        None => (line, MOST_ROOM),
+    };
+    let mut words = line.split_whitespace();
+    match words.next()? {
+        "b" => Some(Case::Book(
+            numbers(words, |word| u8::from_str_radix(word, 16).ok())?,
+            room,
+        )),
+        "w" => Some(Case::Fields(
+            numbers(words, |word| word.parse().ok())?,
+            room,
+        )),
+        _ => None,
+    }
+}
+
+fn numbers<'a, N: Clone>(
+    words: impl Iterator<Item = &'a str>,
+    number: impl Fn(&str) -> Option<N>,
+) -> Option<Vec<N>> {
+    let (mut front, mut part, mut times) = (Vec::new(), Vec::new(), 1);
+    for word in words {
+        match word.strip_prefix('x') {
+            Some(count) => {
+                front.append(&mut part);
+                times = count.parse().ok()?;
+            }
+            None => part.push(number(word)?),
+        }
+    }
+    for _ in 0..times {
+        front.extend_from_slice(&part);
+    }
+    Some(front)
+}
+
+#[cfg(test)]
+mod tests {
+    use super::*;
+
+    #[test]
+    fn a_line_of_the_fixed_cases() {
+        let cases = fixed("# not this\n\nb 01 x2 0A /3\nw 7 300\n").unwrap();
+        assert_eq!(
+            cases,
+            [
+                Case::Book(vec![1, 10, 10], 3),
+                Case::Fields(vec![7, 300], MOST_ROOM)
+            ]
+        );
+    }
+
+    #[test]
+    fn a_bad_line_is_named() {
+        for line in ["c 01", "b 1G", "w 65536", "b 01 /x", "b xx 01"] {
+            let text = format!("b 01\n{line}\n");
+            assert_eq!(fixed(&text), Err(format!("line 2: {line}")));
+        }
+    }
+
+    #[test]
+    fn the_question_has_every_length() {
+        let cases = [Case::Book(vec![9], 2), Case::Fields(vec![258], 65_536)];
+        let asked = [
+            &[2, 0, 0][..],
+            &[b'b', 2, 0, 0, 1, 0, 0, 9],
+            &[b'w', 0, 0, 1, 2, 0, 0, 2, 1],
+        ];
+        assert_eq!(question(&cases), asked.concat());
+    }
+
+    #[test]
+    fn answers_of_a_book_and_of_a_writing() {
+        let book = Case::Book(vec![1, 0, 0, 0, 0], 5);
+        let answer = "book accepted 0\nopening 5\nactive 0 lowest 64\nunpacked 5\n1\n0\n0\n0\n0\n";
+        assert_eq!(book.answer(), answer.as_bytes());
+        let writing = Case::Fields(vec![1, 0, 0, 0, 0], 4);
+        assert_eq!(writing.answer(), b"refused 19 0 0\n");
+    }
+}

@@ -1,0 +1,77 @@
+use native.Mathlib.Omega.{arith}
+use mathlib.Core.Path.{sym}
+use lib.Seq.{length-take-le}
+use borrow.Author.Needs.{needs}
+use Rattle.cases.proofs.unpack.Statement.{statement}
+use Rattle.cases.proofs.unpack.Tie as tie
+use Rattle.cases.proofs.unpack.Reads as reads
+use Rattle.cases.proofs.unpack.Lts as lts
+use Rattle.book.proofs.unpack.Reads as unpack-reads
+use Rattle.cases.proofs.say_count.Reads as say-count-reads
+use Rattle.cases.proofs.say_fields.Reads as say-fields-reads
+use Rattle.cases.proofs.say_refused.Reads as say-refused-reads
+
+unpack-requires : tie.Need-unpack-requires
+unpack-requires c κs = search needs
+
+enum-known-n : tie.Need-enum-known-n
+enum-known-n c = search needs
+
+slice-aggregate-say-count : tie.Need-slice-aggregate-say-count
+slice-aggregate-say-count c = search needs
+
+say-count-requires : tie.Need-say-count-requires
+say-count-requires c κs = search needs
+
+slice-reshare-prefix-say-fields : tie.Need-slice-reshare-prefix-say-fields
+slice-reshare-prefix-say-fields c = search needs
+
+slice-aggregate-say-fields : tie.Need-slice-aggregate-say-fields
+slice-aggregate-say-fields c = sym (length-take-le _ _ (omega arith))
+
+say-fields-requires : tie.Need-say-fields-requires
+say-fields-requires c κs = search needs
+
+enum-known-refusal : tie.Need-enum-known-refusal
+enum-known-refusal c = search needs
+
+say-refused-requires : tie.Need-say-refused-requires
+say-refused-requires c κs = search needs
+
+same-length : tie.Need-same-length
+same-length c = search needs
+
+returns : tie.Need-returns
+returns c = search needs
+
+same-length-2 : tie.Need-same-length-2
+same-length-2 c = search needs
+
+returns-2 : tie.Need-returns-2
+returns-2 c = search needs
+
+same-length-3 : tie.Need-same-length-3
+same-length-3 c = search needs
+
+returns-3 : tie.Need-returns-3
+returns-3 c = search needs
+
+pub unpack-spec : {M : Type 1} → statement M
+unpack-spec =
+    tie.close
+    (tie.spec
+    unpack-requires
+    enum-known-n
+    slice-aggregate-say-count
+    say-count-requires
+    slice-reshare-prefix-say-fields
+    slice-aggregate-say-fields
+    say-fields-requires
+    enum-known-refusal
+    say-refused-requires
+    same-length
+    returns
+    same-length-2
+    returns-2
+    same-length-3
+    returns-3)

@@ -1,0 +1,232 @@
+// Answers the cases on its standard input one after another, so that two programs can be held against each other.
+//
+// A case is a letter, the size of the lent room, a length, and that many bytes; sizes and lengths have three bytes, low byte first. 'b' is a
+// book: its listing, the length of its accepted opening, the report on its state, and its fields unpacked into the room. 'w' is a list of
+// fields, two bytes each, low byte first: what writing them into the room answers. It stops at the end of the input or where that is torn.
+use book::Outcome;
+use book::Reading;
+use libc::STDIN_FILENO;
+use libc::STDOUT_FILENO;
+use listing::Placed;
+use listing::Text;
+use terms::Book;
+use terms::Refusal;
+
+// A few words.
+fn say(words: &[u8]) {
+    io::write_all(STDOUT_FILENO, words);
+}
+
+fn say_number(n: usize) {
+    io::print_decimal(STDOUT_FILENO, n as u64);
+}
+
+// A blank and a number.
+fn then_number(n: usize) {
+    say(b" ");
+    say_number(n);
+}
+
+// A word, a number and the end of the line.
+fn say_count(word: &[u8], n: usize) {
+    say(word);
+    then_number(n);
+    say(b"\n");
+}
+
+fn say_refused(refusal: Refusal, events: usize, place: usize) {
+    let number = refusal.number() as usize;
+    say(b"refused");
+    then_number(number);
+    then_number(events);
+    say_count(b"", place);
+}
+
+// Line k of a listing.
+fn say_line(reading: Reading, k: usize) {
+    let mut room = [0u8; Text::MOST];
+    let placed = listing::put_line(reading, k, &mut room);
+    let Placed::Wrote(n) = placed else {
+        return;
+    };
+    say(&room[..n]);
+}
+
+fn say_listing(reading: Reading) {
+    let lines = listing::line_count(reading);
+    let mut k: usize = 0;
+    while k < lines {
+        say_line(reading, k);
+        k += 1;
+    }
+}
+
+// One line for each transaction that a stands before.
+fn say_pairs(a: usize, row: u64) {
+    let mut b: usize = 0;
+    while b < Book::TRANSACTIONS {
+        if sets::member(row, b) {
+            say_number(a);
+            say_count(b"", b);
+        }
+        b += 1;
+    }
+}
+
+fn say_report(reading: Reading) {
+    let report = report::report_of(reading.state);
+    say(b"active");
+    then_number(report.active);
+    say_count(b" lowest", report.lowest);
+    let rows = report.before;
+    let mut a: usize = 0;
+    while a < Book::TRANSACTIONS {
+        say_pairs(a, rows[a]);
+        a += 1;
+    }
+}
+
+// A field on a line of its own.
+fn say_field(field: u16) {
+    say_number(field as usize);
+    say(b"\n");
+}
+
+fn say_fields(fields: &[u16]) {
+    let mut i: usize = 0;
+    while i < fields.len() {
+        say_field(fields[i]);
+        i += 1;
+    }
+}
+
+fn unpack(bytes: &[u8], room: &mut [u16]) {
+    match book::unpack(bytes, room) {
+        Outcome::Wrote(n) => {
+            say_count(b"unpacked", n);
+            if n <= room.len() {
+                say_fields(&room[..n]);
+            }
+        }
+        Outcome::Refuses(refusal, events, place) => say_refused(refusal, events, place),
+    }
+}
+
+fn answer_book(bytes: &[u8], room: &mut [u16]) {
+    let reading = book::read(bytes);
+    say_listing(reading);
+    let opening = book::opening(bytes);
+    say_count(b"opening", opening.len());
+    say_report(reading);
+    unpack(bytes, room);
+}
+
+fn answer_write(fields: &[u16], room: &mut [u8]) {
+    match book::write(fields, room) {
+        Outcome::Wrote(n) => {
+            say_count(b"written", n);
+            if n <= room.len() {
+                say(&room[..n]);
+                say(b"\n");
+            }
+        }
+        Outcome::Refuses(refusal, events, place) => say_refused(refusal, events, place),
+    }
+}
+
+// A number of three bytes, low byte first.
+fn three(low: u8, middle: u8, high: u8) -> usize {
+    low as usize | (middle as usize) << 8 | (high as usize) << 16
+}
+
+// A field of two bytes, low byte first.
+fn two(low: u8, high: u8) -> u16 {
+    low as u16 | (high as u16) << 8
+}
+
+// The fields that these bytes hold, at the front of a list; how many there are.
+fn fields_from(bytes: &[u8], fields: &mut [u16]) -> usize {
+    let mut i: usize = 0;
+    while i < fields.len() {
+        if bytes.len() / 2 <= i {
+            return i;
+        }
+        let low = bytes[2 * i];
+        let high = bytes[2 * i + 1];
+        fields[i] = two(low, high);
+        i += 1;
+    }
+    i
+}
+
+fn book_case(bytes: &[u8], size: usize) {
+    let mut room = [0u16; 65536];
+    if 65536 < size {
+        return;
+    }
+    answer_book(bytes, &mut room[..size]);
+}
+
+fn write_case(bytes: &[u8], size: usize) {
+    let mut fields = [0u16; 65537];
+    let mut room = [0u8; 65536];
+    let n = fields_from(bytes, &mut fields);
+    if 65537 < n {
+        return;
+    }
+    if 65536 < size {
+        return;
+    }
+    answer_write(&fields[..n], &mut room[..size]);
+}
+
+// One case by its letter.
+fn answer(letter: u8, bytes: &[u8], size: usize) {
+    if letter == b'w' {
+        write_case(bytes, size);
+    } else {
+        book_case(bytes, size);
+    }
+}
+
+// Fills a part with the bytes of a case and answers it; whether they were all there.
+fn read_and_answer(letter: u8, part: &mut [u8], size: usize) -> bool {
+    let n = io::read_full(STDIN_FILENO, part);
+    if n < part.len() {
+        return false;
+    }
+    answer(letter, &part[..n], size);
+    true
+}
+
+// One case; whether it was there whole.
+fn one_case() -> bool {
+    let mut head = [0u8; 7];
+    let got = io::read_full(STDIN_FILENO, &mut head);
+    if got < 7 {
+        return false;
+    }
+    let size = three(head[1], head[2], head[3]);
+    let length = three(head[4], head[5], head[6]);
+    let mut bytes = [0u8; 131074];
+    if 131074 < length {
+        return false;
+    }
+    read_and_answer(head[0], &mut bytes[..length], size)
+}
+
+// The input begins with the number of cases.
+fn main() {
+    let mut head = [0u8; 3];
+    io::read_full(STDIN_FILENO, &mut head);
+    let cases = three(head[0], head[1], head[2]);
+    let mut k: usize = 0;
+    while k < cases {
+        say_count(b"== case", k);
+        if !one_case() {
+            say(b"torn\n");
+            return;
+        }
+        k += 1;
+    }
+}

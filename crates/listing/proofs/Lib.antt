@@ -1,0 +1,6 @@
+-- Laws of texts, of numbers in decimal, and of the lines of the listing.
+pub mod TextLaws
+pub mod DigitLaws
+pub mod CountLaws
+pub mod ListingLaws
+pub mod CasesHold

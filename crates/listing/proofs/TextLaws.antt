@@ -1,0 +1,74 @@
+-- Laws of texts that grow.
+use Prim.Native.Nat.{ℕ, _+_, _≤_, _<_}
+use mathlib.Core.Path.{_≡_, refl, sym, ap, _∙_}
+use mathlib.Core.List.{List, [], _∷_, _++_, append-nil, append-assoc}
+use native.Mathlib.Numerals.{add-one}
+use native.Mathlib.Omega.{arith}
+use borrow.Author.Tests.{lt-ltb, le-ltb}
+use lib.ListN.{length, take, drop, getD, set, length-append}
+use lib.Seq.{take-suc, take-suc-set, length-take-le, take-all}
+use Rattle.laws.proofs.ListLaws.{front-more}
+use Rattle.listing.specs.Texts.{mostText, withByte, withAll}
+
+-- ---- one byte
+
+-- where there is room, it stands at the end
+pub byte-fits : (l : List ℕ) (n b : ℕ) → length l ≡ mostText → n < mostText → take (n + 1) (set l n b) ≡ withByte (take n l) b
+byte-fits l n b e h =
+    let t : length (take n l) ≡ n = length-take-le n l (omega arith) in
+    rw (add-one n, lt-ltb (length (take n l)) mostText (omega arith)) (take-suc-set l n b (omega arith))
+
+-- where there is none, the text stays
+pub byte-left : (l : List ℕ) (n b : ℕ) → length l ≡ mostText → mostText ≤ n → take n l ≡ withByte (take n l) b
+byte-left l n b e h =
+    let t : take n l ≡ l = take-all n l (omega arith) in
+    rw (t, le-ltb (length l) mostText (omega arith))
+
+-- ---- many bytes
+
+pub all-none : (l : List ℕ) → withAll l [] ≡ l
+unfolding withAll
+all-none l = refl
+
+pub all-one : (l : List ℕ) (b : ℕ) → withAll l (b ∷ []) ≡ withByte l b
+unfolding withAll
+all-one l b = refl
+
+pub all-append : (l xs ys : List ℕ) → withAll l (xs ++ ys) ≡ withAll (withAll l xs) ys
+unfolding withAll
+all-append l [] ys = refl
+all-append l (b ∷ bs) ys = all-append (withByte l b) bs ys
+
+front-suc : (l : List ℕ) (i : ℕ) → i < length l → take (i + 1) l ≡ take i l ++ (getD l i 0 ∷ [])
+front-suc l i h = rw (add-one i) (take-suc l i 0 h)
+
+-- the first i + 1 bytes of a word are the first i and one more
+pub all-more : (l letters : List ℕ) (i : ℕ) → i < length letters
+    → withAll l (take (i + 1) letters) ≡ withByte (withAll l (take i letters)) (getD letters i 0)
+all-more l letters i h =
+    rw (front-suc letters i h, all-append l (take i letters) (getD letters i 0 ∷ []))
+    (all-one (withAll l (take i letters)) (getD letters i 0))
+
+-- what fits is all there
+pub all-fits : (l xs : List ℕ) → length l + length xs ≤ mostText → withAll l xs ≡ l ++ xs
+unfolding withAll
+all-fits l [] h = sym (append-nil l)
+all-fits l (b ∷ bs) h =
+    rw (lt-ltb (length l) mostText (omega arith))
+    (all-fits (l ++ (b ∷ [])) bs (simp length-append (omega arith)) ∙ append-assoc l (b ∷ []) bs)
+
+-- one byte more of a text at the front of a room
+pub copy-more : (text room now : List ℕ) (i : ℕ) → i < length text → i < length room → now ≡ take i text ++ drop i room
+    → set now i (getD text i 0) ≡ take (i + 1) text ++ drop (i + 1) room
+copy-more text room now i h k e =
+    ap (λ (l : List ℕ). set l i (getD text i 0)) e
+    ∙ front-more (take i text) room i (getD text i 0) (length-take-le i text (omega arith)) k
+    ∙ ap (λ (l : List ℕ). l ++ drop (i + 1) room) (sym (front-suc text i h))
+
+-- one part, and then the rest of a line
+pub then : (l xs ys : List ℕ) {t u : List ℕ} → t ≡ withAll l xs → u ≡ withAll t ys → u ≡ withAll l (xs ++ ys)
+then l xs ys p q = q ∙ ap (λ (k : List ℕ). withAll k ys) p ∙ sym (all-append l xs ys)
+
+-- a line begins with nothing
+pub first : (xs : List ℕ) {t u : List ℕ} → t ≡ [] → u ≡ withAll t xs → u ≡ withAll [] xs
+first xs p q = q ∙ ap (λ (k : List ℕ). withAll k xs) p

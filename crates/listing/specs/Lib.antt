@@ -1,0 +1,5 @@
+-- The definitions that the contracts of `listing` cite.
+pub mod Words
+pub mod Texts
+pub mod Lines
+pub mod Cases

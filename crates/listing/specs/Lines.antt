@@ -1,0 +1,128 @@
+-- The listing (document 01, 'The listing'): "Line 1: events accepted; or `book refused`, number, events, place. `t`: number, state. `op`: number,
+-- object, mark, responsible, state. `saga`: index, outstanding, closing step and its transaction, or `none`. The kinds of line come in this order,
+-- each by rising number. If the tables are refused only line 1 is printed." Refused tables are empty, so that no other line is left then.
+use Prim.Native.Nat.{ℕ, _+_, _-_, min}
+use mathlib.Core.Bool.{cond}
+use mathlib.Core.List.{List, _++_}
+use lib.Dec.{ltb, leb, eqb}
+use lib.ListN.{length, drop}
+use Rattle.terms.specs.Limits.{mostSagas, mostTransactions}
+use Rattle.terms.specs.Refusals.{numberOf}
+use Rattle.terms.specs.declared.Verdict.{Verdict}
+use Rattle.terms.specs.declared.Verdict.the-variants.{Accepted, Refused}
+use Rattle.ties.specs.Operations.{opAt, size}
+use Rattle.ties.specs.declared.Mark.{Mark}
+use Rattle.ties.specs.declared.Mark.the-variants.{Read, Write}
+use Rattle.ties.specs.declared.Fate.{Fate}
+use Rattle.ties.specs.declared.Fate.the-variants.{Aborted as FateAborted, Active as FateActive, Committed as FateCommitted}
+use Rattle.ties.specs.declared.Operation.{Operation}
+use Rattle.tables.specs.Sorts.{numberOfAll}
+use Rattle.judge.specs.States.{phaseOf}
+use Rattle.judge.specs.declared.Phase.{Phase}
+use Rattle.judge.specs.declared.Phase.the-variants.{Idle, Active, Committed, Aborted}
+use Rattle.closing.specs.Closing.{outstanding, closing}
+use Rattle.closing.specs.declared.NextStep.{NextStep}
+use Rattle.closing.specs.declared.NextStep.the-variants.{NoStep, ToBegin, ToCommit, ToAbort}
+use Rattle.book.specs.declared.Reading.{Reading}
+use Rattle.listing.specs.declared.Placed.{Placed}
+use Rattle.listing.specs.declared.Placed.the-variants.{Wrote, NoRoom, NoLine}
+use Rattle.listing.specs.Words.{
+  bookAccepted,
+  bookRefused,
+  transactionWord,
+  operationWord,
+  sagaWord,
+  idleWord,
+  activeWord,
+  committedWord,
+  abortedWord,
+  readWord,
+  writeWord,
+  noneWord,
+  beginWord,
+  commitWord,
+  abortWord,
+  blank,
+  lineFeed,
+  decimal,
+}
+
+-- ---- the words of states, marks and steps
+
+abbrev pub phaseWord : Phase → List ℕ
+phaseWord Idle = idleWord
+phaseWord Active = activeWord
+phaseWord Committed = committedWord
+phaseWord Aborted = abortedWord
+
+abbrev pub fateWord : Fate → List ℕ
+fateWord FateAborted = abortedWord
+fateWord FateActive = activeWord
+fateWord FateCommitted = committedWord
+
+abbrev pub markWord : Mark → List ℕ
+markWord Read = readWord
+markWord Write = writeWord
+
+abbrev pub stepWords : NextStep → List ℕ
+stepWords NoStep = noneWord
+stepWords (ToBegin t) = beginWord ++ decimal t
+stepWords (ToCommit t) = commitWord ++ decimal t
+stepWords (ToAbort t) = abortWord ++ decimal t
+
+-- ---- the four kinds of line
+
+abbrev pub firstLineBy : Verdict → ℕ → ℕ → List ℕ
+firstLineBy Accepted events place = bookAccepted ++ (decimal events ++ lineFeed)
+firstLineBy (Refused r) events place = bookRefused ++ (decimal (numberOf r) ++ (blank ++ (decimal events ++ (blank ++ (decimal place ++ lineFeed)))))
+
+abbrev pub transactionLine : Reading → ℕ → List ℕ
+transactionLine r t = transactionWord ++ (decimal t ++ (blank ++ (phaseWord (phaseOf (r .state .transactions) t) ++ lineFeed)))
+
+abbrev pub operationLineOf : ℕ → Operation → List ℕ
+operationLineOf q op =
+    operationWord
+    ++ (decimal q ++ (blank ++ (decimal (op .object) ++ (blank ++ (markWord (op .mark) ++ (blank ++ (decimal (op .responsible) ++ (blank ++ (fateWord (op .fate) ++ lineFeed)))))))))
+
+abbrev pub operationLine : Reading → ℕ → List ℕ
+operationLine r q = operationLineOf q (opAt (r .state .ops) q)
+
+abbrev pub sagaLine : Reading → ℕ → List ℕ
+sagaLine r i =
+    sagaWord ++ (decimal i ++ (blank ++ (decimal (outstanding (r .tables) (r .state) i) ++ (blank ++ (stepWords (closing (r .tables) (r .state) i) ++ lineFeed)))))
+
+-- ---- which line is which
+
+-- how many there are of each kind; no more than there is room for, whatever the tables say
+abbrev pub transactionLines : Reading → ℕ
+transactionLines r = min (numberOfAll (r .tables)) mostTransactions
+
+abbrev pub operationLines : Reading → ℕ
+operationLines r = size (r .state .ops)
+
+abbrev pub sagaLines : Reading → ℕ
+sagaLines r = min (r .tables .sagas) mostSagas
+
+unfoldable pub lineCount : Reading → ℕ
+lineCount r = 1 + (transactionLines r + (operationLines r + sagaLines r))
+
+-- the k-th of those after the first
+unfoldable pub laterLine : Reading → ℕ → List ℕ
+laterLine r k =
+    cond (ltb k (transactionLines r)) (transactionLine r k)
+    (cond (ltb (k - transactionLines r) (operationLines r)) (operationLine r (k - transactionLines r))
+    (sagaLine r (k - transactionLines r - operationLines r)))
+
+-- line k, counted from 0
+unfoldable pub lineOf : Reading → ℕ → List ℕ
+lineOf r k = cond (eqb k 0) (firstLineBy (r .answer) (r .events) (r .place)) (laterLine r (k - 1))
+
+-- ---- into a lent room: the line at its front and the rest as it was; or nothing is touched
+
+unfoldable pub placeAnswer : Reading → ℕ → List ℕ → Placed
+placeAnswer r k room =
+    cond (leb (lineCount r) k) NoLine (cond (ltb (length room) (length (lineOf r k))) NoRoom (Wrote (length (lineOf r k))))
+
+unfoldable pub placeRoom : Reading → ℕ → List ℕ → List ℕ
+placeRoom r k room =
+    cond (leb (lineCount r) k) room (cond (ltb (length room) (length (lineOf r k))) room (lineOf r k ++ drop (length (lineOf r k)) room))
