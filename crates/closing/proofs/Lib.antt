@@ -1,7 +1,6 @@
 -- Demand 3, from one saga by itself up to any run of events.
 pub mod Moves
 pub mod OutstandingLaws
-pub mod StepLaws
 pub mod ReturnLaws
 pub mod Shapes
 pub mod OwnEvents

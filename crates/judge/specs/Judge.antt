@@ -117,9 +117,6 @@ lines tables s (Delegate t r q) = delegateLines tables (s .transactions) (s .ops
 abbrev pub verdictBy : List (Line Refusal) → Verdict
 verdictBy ls = firstLine Refused Accepted ls
 
-unfoldable pub verdictOf : Tables → State → Event → Verdict
-verdictOf tables s e = verdictBy (lines tables s e)
-
 -- ---- what an accepted event changes
 
 abbrev pub changeOf : Event → Change

@@ -284,7 +284,11 @@ fn declared_bars(
         if dependent == t {
             let base = d.base as usize;
             let kind = d.kind;
-            let phase = phase_of(transactions, base);
+            let mut phase = Phase::Idle;
+            if base < Book::TRANSACTIONS {
+                let x = transactions[base];
+                phase = x.phase;
+            }
             if kind_bars(begins, kind, phase) {
                 return true;
             }

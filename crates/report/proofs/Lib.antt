@@ -1,3 +1,2 @@
 -- Laws of the report.
-pub mod SameLaws
 pub mod RowLaws

@@ -2,31 +2,19 @@
 use Prim.Native.Nat.{ℕ, _+_, _<_}
 use native.Mathlib.Omega.{arith}
 use mathlib.Core.Path.{_≡_, refl, ap, _∙_, fun-ext}
-use mathlib.Core.Bool.{Bool, cond, _&&_}
+use mathlib.Core.Bool.{Bool, cond}
 use mathlib.Core.List.{List}
 use lib.Dec.{eqb, ltb}
 use lib.ListN.{set, replicate}
 use borrow.Author.Tests.{eq-eqb, ne-eqb, lt-ltb, le-ltb}
-use Rattle.laws.specs.Index.{countBelow, firstBelow, tabulate, grid}
+use Rattle.laws.specs.Index.{tabulate, grid}
 use Rattle.laws.proofs.Decisions.{same-or, lt-or}
 use Rattle.laws.proofs.IndexLaws.{grid-at, set-tabulate}
+use Rattle.laws.proofs.SameLaws.{tabulate-same}
 use Rattle.terms.specs.Limits.{mostTransactions}
 use Rattle.sets.specs.Reach.{at}
-use Rattle.sets.specs.Sets.{mem, setOf}
-use Rattle.sets.proofs.SetLaws.{mem-set-of}
-use Rattle.report.proofs.SameLaws.{count-same, first-same, tabulate-same, set-same}
-
--- ---- the members of a set, counted and searched
-
-module _ (f : ℕ → Bool) where
-  members : (t : ℕ) → t < mostTransactions → mem (setOf mostTransactions f) t ≡ f t
-  members t h = mem-set-of mostTransactions f t (omega arith) ∙ ap (λ (b : Bool). b && f t) (lt-ltb t mostTransactions h)
-
-  pub count-members : countBelow mostTransactions (mem (setOf mostTransactions f)) ≡ countBelow mostTransactions f
-  count-members = count-same mostTransactions (mem (setOf mostTransactions f)) f members
-
-  pub first-member : firstBelow mostTransactions (mem (setOf mostTransactions f)) ≡ firstBelow mostTransactions f
-  first-member = first-same mostTransactions (mem (setOf mostTransactions f)) f members
+use Rattle.sets.specs.Sets.{setOf}
+use Rattle.sets.proofs.SetLaws.{set-same}
 
 -- ---- rows below a are filled
 

@@ -15,6 +15,7 @@ use lib.Count.{ones, ones-step, trailingZeros, under}
 use Rattle.laws.specs.Index.{one, countBelow, firstBelow}
 use Rattle.laws.proofs.Bools.{bool-cases}
 use Rattle.laws.proofs.Decisions.{same-or, lt-or}
+use Rattle.laws.proofs.SameLaws.{count-same, first-same}
 use Rattle.sets.specs.Sets.{mem, inserted, setOf}
 
 two-pos : 0 < 2
@@ -179,3 +180,21 @@ module _ (f : ℕ → Bool) (n x : ℕ) (e : x ≡ setOf n f) where
 
   pub set-of-out : f n ≡ false → x ≡ setOf (n + 1) f
   set-of-out h = rw (set-of-more n f, h) e
+
+-- two tests that agree below n: the same set
+pub set-same : (n : ℕ) (f g : ℕ → Bool) → ((i : ℕ) → i < n → f i ≡ g i) → setOf n f ≡ setOf n g
+unfolding setOf
+set-same zero f g h = refl
+set-same (suc n) f g h = rw (h n (omega arith), set-same n f g (λ i l. h i (omega arith)))
+
+-- ---- the members of the set of those of which f holds, counted and searched
+
+module _ (f : ℕ → Bool) where
+  members : (t : ℕ) → t < mostTransactions → mem (setOf mostTransactions f) t ≡ f t
+  members t h = mem-set-of mostTransactions f t (omega arith) ∙ ap (λ (b : Bool). b && f t) (lt-ltb t mostTransactions h)
+
+  pub count-members : countBelow mostTransactions (mem (setOf mostTransactions f)) ≡ countBelow mostTransactions f
+  count-members = count-same mostTransactions (mem (setOf mostTransactions f)) f members
+
+  pub first-member : firstBelow mostTransactions (mem (setOf mostTransactions f)) ≡ firstBelow mostTransactions f
+  first-member = first-same mostTransactions (mem (setOf mostTransactions f)) f members

@@ -5,7 +5,7 @@ use Prim.Native.Nat.{_≤_}
 use Rattle.laws.specs.Index.{highest}
 use Rattle.judge.specs.States.{isActive, own}
 use Rattle.closing.specs.Closing.{activeStep}
-use Rattle.closing.proofs.StepLaws.{down-hit, down-miss, down-end}
+use Rattle.laws.proofs.StepLaws.{down-hit, down-miss, down-end}
 use Rattle.closing.proofs.active_step.Statement.{statement}
 use Rattle.closing.proofs.active_step.Tie as tie
 

@@ -9,7 +9,7 @@ use Rattle.laws.specs.Index.{highest}
 use Rattle.judge.specs.States.{isCommitted, own}
 use Rattle.judge.specs.Rules.{undone}
 use Rattle.judge.specs.declared.Phase.{Phase}
-use Rattle.closing.proofs.StepLaws.{down-hit, down-miss, down-end}
+use Rattle.laws.proofs.StepLaws.{down-hit, down-miss, down-end}
 use Rattle.closing.proofs.all_undone.Statement.{statement}
 use Rattle.closing.proofs.all_undone.Tie as tie
 

@@ -7,7 +7,7 @@ use Rattle.laws.specs.Index.{highest}
 use Rattle.judge.specs.States.{isCommitted, own}
 use Rattle.judge.specs.declared.Phase.{Phase}
 use Rattle.closing.specs.Closing.{nextUndo}
-use Rattle.closing.proofs.StepLaws.{highest-zero, down-hit, down-miss, down-end}
+use Rattle.laws.proofs.StepLaws.{highest-zero, down-hit, down-miss, down-end}
 use Rattle.closing.proofs.next_undo.Statement.{statement}
 use Rattle.closing.proofs.next_undo.Tie as tie
 

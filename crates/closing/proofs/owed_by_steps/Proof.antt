@@ -7,7 +7,7 @@ use Rattle.laws.proofs.HighestLaws.{sum-le}
 use Rattle.judge.specs.States.{own}
 use Rattle.closing.specs.Closing.{owed}
 use Rattle.closing.proofs.OutstandingLaws.{owed-le}
-use Rattle.closing.proofs.StepLaws.{sum-none, sum-more}
+use Rattle.laws.proofs.StepLaws.{sum-none, sum-more}
 use Rattle.closing.proofs.owed_by_steps.Statement.{statement}
 use Rattle.closing.proofs.owed_by_steps.Tie as tie
 

@@ -4,7 +4,7 @@ use Rattle.laws.specs.Index.{countBelow, firstBelow}
 use Rattle.terms.specs.Limits.{mostTransactions}
 use Rattle.sets.specs.Sets.{mem}
 use Rattle.report.specs.Report.{activeIn, activeSet, reportOf}
-use Rattle.report.proofs.RowLaws.{count-members, first-member}
+use Rattle.sets.proofs.SetLaws.{count-members, first-member}
 use borrow.Author.Needs.{needs}
 use Rattle.report.proofs.report_of.Statement.{statement}
 use Rattle.report.proofs.report_of.Tie as tie

@@ -1,10 +1,9 @@
--- Two tests that agree below a bound: the same count, the same lowest, the same set; two functions that agree there: the same list.
+-- Two tests that agree below a bound: the same count, the same lowest; two functions that agree there: the same list.
 use Prim.Native.Nat.{ℕ, zero, suc, _<_}
 use native.Mathlib.Omega.{arith}
 use mathlib.Core.Path.{_≡_, refl}
 use mathlib.Core.Bool.{Bool}
 use Rattle.laws.specs.Index.{countBelow, firstBelow, tabulate}
-use Rattle.sets.specs.Sets.{setOf}
 
 pub count-same : (n : ℕ) (f g : ℕ → Bool) → ((i : ℕ) → i < n → f i ≡ g i) → countBelow n f ≡ countBelow n g
 unfolding countBelow
@@ -21,8 +20,3 @@ unfolding tabulate
 tabulate-same zero f g h = refl
 tabulate-same (suc n) f g h =
     rw (h 0 (omega arith), tabulate-same n (λ i. f (suc i)) (λ i. g (suc i)) (λ i l. h (suc i) (omega arith)))
-
-pub set-same : (n : ℕ) (f g : ℕ → Bool) → ((i : ℕ) → i < n → f i ≡ g i) → setOf n f ≡ setOf n g
-unfolding setOf
-set-same zero f g h = refl
-set-same (suc n) f g h = rw (h n (omega arith), set-same n f g (λ i l. h i (omega arith)))
