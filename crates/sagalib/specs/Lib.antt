@@ -1,0 +1,2 @@
+-- The definitions that the contracts of `sagalib` cite.
+pub mod Numbers

@@ -1,0 +1,98 @@
+/* The saga book for C and C++: the functions of libsagalib.a.
+
+   Each takes any bytes and any numbers; nothing has to be looked at first, and a refusal is an answer like any other. Bytes, fields and
+   rooms are passed as a pointer and how many elements there are. What C itself asks stays the caller's part: a pointer is not null, it
+   points to as many elements as the number after it says, and a room and an answer overlap nothing else that is passed.
+
+   No function keeps anything between two calls, takes memory from the heap or writes anywhere but into the room and the answer. */
+#ifndef SAGALIB_H
+#define SAGALIB_H
+
+#include <stddef.h>
+#include <stdint.h>
+
+#ifdef __cplusplus
+extern "C" {
+#endif
+
+/* The most bytes that a book has, and so the most fields. */
+#define SAGA_BOOK_BYTES 65536
+
+/* A room of so many bytes holds every line of a listing. */
+#define SAGA_LINE_BYTES 96
+
+/* Why something is refused. */
+enum saga_refusal {
+  SAGA_ACCEPTED = 0,         /* nothing is refused */
+  SAGA_TOO_LONG = 1,         /* book over 65,536 bytes */
+  SAGA_TORN = 2,             /* book ends inside a number, or before a field that is due */
+  SAGA_BAD_NUMBER = 3,       /* a number that is not in its shortest form, or above 65,535 */
+  SAGA_BAD_EDITION = 4,      /* edition not 1 */
+  SAGA_BAD_COUNT = 5,        /* a table count out of its range, or more than 64 transactions */
+  SAGA_BAD_DEPENDENCY = 6,   /* a dependency that may not be declared, or is not rising */
+  SAGA_BAD_CODE = 7,         /* event code not on the list of events */
+  SAGA_NOT_IN_TABLES = 8,    /* transaction, object or mark not in the tables, or operation number not accepted so far */
+  SAGA_NEVER_DOES = 9,       /* that sort of transaction never does this; or delegates to itself */
+  SAGA_NOT_IDLE = 10,        /* begin of one that isn't idle */
+  SAGA_NOT_ACTIVE = 11,      /* commit, abort, operation or delegation by one not active, or receiver not active */
+  SAGA_NOT_RESPONSIBLE = 12, /* delegator not responsible */
+  SAGA_SAGA_RULE = 13,       /* saga rule */
+  SAGA_DEPENDENCY_RULE = 14, /* declared dependency */
+  SAGA_DIRTY_READ = 15,      /* dirty read */
+  SAGA_ON_RING = 16,         /* on a ring */
+  SAGA_MUST_WAIT = 17,       /* undo must wait */
+  SAGA_FULL = 18,            /* 256 operations accepted already */
+  SAGA_NO_ROOM = 19          /* lent room too small */
+};
+
+/* The answer of every function that can refuse: always the same four numbers. */
+struct saga_answer {
+  uint64_t refusal; /* a saga_refusal: 0 if nothing is refused */
+  uint64_t events;  /* how many events of the book are accepted: all of them, or those before the refusal */
+  uint64_t place;   /* where the refusal is: in bytes of the book, or for saga_write in fields; 0 if nothing is refused */
+  uint64_t length;  /* how many bytes or fields were accepted or written; 0 after a refusal to write */
+};
+
+/* What is to be done for a saga; the numbers are those of the events in a book. */
+enum saga_event { SAGA_NONE = 0, SAGA_BEGIN = 1, SAGA_COMMIT = 2, SAGA_ABORT = 3 };
+
+/* The closing step of a saga. */
+struct saga_step {
+  uint64_t event;       /* a saga_event */
+  uint64_t transaction; /* its transaction, 0 if there is no step */
+  uint64_t outstanding; /* how many steps are left, this one counted: 0 when there is no step */
+};
+
+/* Reads a book. The answer is the first refusal, with the events before it and its place; its length is that of the accepted opening, the
+   bytes up to the end of the last accepted event, also where the book is refused. */
+void saga_read(const uint8_t *book, size_t book_size, struct saga_answer *answer);
+
+/* How many bytes the accepted opening of a book has: saga_read's length by itself. A writer that finds its book torn goes on after these. */
+uint64_t saga_opening(const uint8_t *book, size_t book_size);
+
+/* How many lines the listing of a book has: at least 1, and 1 if its tables are refused. */
+uint64_t saga_lines(const uint8_t *book, size_t book_size);
+
+/* Puts line k of the listing of a book, counted from 0 and with the line feed that ends it, at the front of the room. The answer's length
+   is how many bytes that is. It is 0 if there is no such line, which is no refusal; 19 is the only refusal here, since every book has a
+   listing, and it leaves the room as it was. What lies behind the line in the room stays as it was. */
+void saga_line(const uint8_t *book, size_t book_size, uint64_t k, uint8_t *room, size_t room_size, struct saga_answer *answer);
+
+/* What is to be done next for the saga of an index, counted from 0, after the accepted events of a book. Above 0 outstanding, the step is
+   accepted as the next event and leaves one less. An index that is no saga's has nothing to do. */
+void saga_next(const uint8_t *book, size_t book_size, uint64_t saga, struct saga_step *step);
+
+/* Puts the fields of a book that is accepted whole at the front of the room; the answer's length is how many there are, never more than the
+   book has bytes. Refusals are those of saga_read, then 19; each leaves the room as it was. What lies behind the fields stays as it was. */
+void saga_unpack(const uint8_t *book, size_t book_size, uint16_t *room, size_t room_size, struct saga_answer *answer);
+
+/* Puts the bytes of fields that are a book at the front of the room; the answer's length is how many bytes there are, never more than three
+   for a field. Refusals are those of saga_read with the place counted in fields, then 19; each leaves the room as it was. What lies behind
+   the bytes stays as it was. It keeps a book of 64 KiB on the stack. */
+void saga_write(const uint16_t *fields, size_t field_count, uint8_t *room, size_t room_size, struct saga_answer *answer);
+
+#ifdef __cplusplus
+}
+#endif
+
+#endif

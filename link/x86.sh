@@ -1,0 +1,120 @@
+# Programs for x86-64, which the proved library is code for: how they are compiled, linked and run on this machine. To be sourced.
+# On x86-64 the machine's own cc and rustc make them. On another processor the toolchain's compiler, linker, C library and emulator serve,
+# and Rust's library for x86-64 is that of the installed rustc, or else what link/fetch-x86 fetches.
+root=$(cd "$(dirname "${BASH_SOURCE[0]}")/.." && pwd) || exit 2
+if ! command -v rt >/dev/null; then
+  echo "the Rattle toolchain (rt) is not on this machine" >&2
+  exit 2
+fi
+machine=$(uname -m)
+home=${RATTLE_HOME:-$(dirname "$(dirname "$(readlink -f "$(command -v rt)")")")}
+tools=$home/on/$machine/toolchain
+target=x86_64-unknown-linux-gnu
+[ "$machine" = x86_64 ] && command -v cc >/dev/null && by=machine || by=toolchain
+
+# Proves a static library and writes its archive.
+archive_of() {
+  local said
+  if [ ! -f "$root/target/staticlib/lib$1.a" ]; then
+    echo "$1 is proved and built first; this takes some minutes" >&2
+  fi
+  if ! said=$(cd "$root" && rt staticlib "$1" 2>&1 </dev/null); then
+    printf '%s\n' "$said" >&2
+    return 1
+  fi
+}
+
+# Runs a program with its words.
+started() {
+  if [ "$by" = machine ]; then
+    "$@"
+    return
+  fi
+  local emulator=$tools/bin/qemu-x86_64
+  [ -x "$emulator" ] || emulator=
+  ${emulator:+"$emulator"} "$tools/lib/ld-linux-x86-64.so.2" --library-path "$tools/lib" "$@"
+}
+
+# ---- C: a program from a source and an archive
+
+c_program() {
+  c_by_$by "$@"
+}
+
+c_by_machine() {
+  cc -std=c11 -Wall -Wextra -O1 -o "$1" "$2" "$3"
+}
+
+# The toolchain's compiler comes without headers; these two say what it knows by itself.
+c_by_toolchain() {
+  local include=$1.include
+  mkdir -p "$include"
+  cat >"$include/stddef.h" <<'C'
+typedef __SIZE_TYPE__ size_t;
+C
+  cat >"$include/stdint.h" <<'C'
+typedef __UINT8_TYPE__ uint8_t;
+typedef __UINT16_TYPE__ uint16_t;
+typedef __UINT64_TYPE__ uint64_t;
+#define UINT64_MAX __UINT64_MAX__
+C
+  "$tools/bin/clang" --target=$target -std=c11 -Wall -Wextra -O1 -fPIE -ffreestanding -nostdinc -isystem "$include" -c "$2" -o "$1.o" &&
+    "$tools/bin/ld.lld" -pie --dynamic-linker=/lib64/ld-linux-x86-64.so.2 -o "$1" \
+      "$tools/lib/Scrt1.o" "$tools/lib/crti.o" "$tools/lib/crtbeginS.o" "$1.o" "$3" \
+      "$tools/lib/libc.so.6" "$tools/lib/libc_nonshared.a" "$tools/lib/libgcc.a" "$tools/lib/crtendS.o" "$tools/lib/crtn.o"
+}
+
+# ---- Rust: which compiler, and a program from a source with more words for the compiler
+
+fetched=$root/target/x86
+rustc_fetched() {
+  local own=$machine-linux-gnu
+  LD_LIBRARY_PATH=$fetched/usr/lib/$own:$fetched/lib/$own "$fetched/usr/bin/rustc" --sysroot "$fetched/usr" "$@"
+}
+
+# Whether a rustc has Rust's library for x86-64.
+has_library() {
+  local libraries
+  libraries=$("$1" --print target-libdir --target $target 2>/dev/null) && compgen -G "$libraries/libstd-*.rlib" >/dev/null
+}
+
+# Sets `compiler`; fails where no Rust library for x86-64 can be had.
+find_rust() {
+  if has_library rustc; then
+    compiler=rustc
+  elif has_library rustc_fetched || { "$root/link/fetch-x86" >/dev/null 2>&1 && has_library rustc_fetched; }; then
+    compiler=rustc_fetched
+  else
+    return 1
+  fi
+}
+
+rust_program() {
+  rust_by_$by "$@"
+}
+
+rust_by_machine() {
+  local out=$1 source=$2
+  shift 2
+  $compiler --edition 2021 --target $target "$@" -o "$out" "$source"
+}
+
+# Rust asks for the parts of the C library by the names that an installed compiler has for them.
+rust_by_toolchain() {
+  local out=$1 source=$2 part words=()
+  shift 2
+  local lib=$out.lib
+  rm -rf "$lib"
+  mkdir -p "$lib"
+  for part in c.so:libc.so.6 m.so:libm.so.6 gcc_s.so:libgcc_s.so.1; do
+    ln -s "$tools/lib/${part#*:}" "$lib/lib${part%%:*}"
+  done
+  for part in dl pthread rt util; do
+    printf '!<arch>\n' >"$lib/lib$part.a"
+  done
+  for part in Scrt1.o crti.o crtbeginS.o crtendS.o crtn.o libc_nonshared.a; do
+    words+=(-C "link-arg=$tools/lib/$part")
+  done
+  $compiler --edition 2021 --target $target -L "native=$lib" -C linker-flavor=ld.lld -C "linker=$tools/bin/ld.lld" \
+    -C link-arg=--dynamic-linker=/lib64/ld-linux-x86-64.so.2 "${words[@]}" "$@" -o "$out" "$source"
+}
