@@ -34,15 +34,16 @@ enum saga_refusal {
   SAGA_NOT_IN_TABLES = 8,    /* transaction, object or mark not in the tables, or operation number not accepted so far */
   SAGA_NEVER_DOES = 9,       /* that sort of transaction never does this; or delegates to itself */
   SAGA_NOT_IDLE = 10,        /* begin of one that isn't idle */
-  SAGA_NOT_ACTIVE = 11,      /* commit, abort, operation or delegation by one not active, or receiver not active */
-  SAGA_NOT_RESPONSIBLE = 12, /* delegator not responsible */
+  SAGA_NOT_ACTIVE = 11,      /* commit, abort, operation, delegation, or commit or abort of one operation by one not active, or receiver not active */
+  SAGA_NOT_RESPONSIBLE = 12, /* delegator, or who commits or aborts one operation, not responsible */
   SAGA_SAGA_RULE = 13,       /* saga rule */
   SAGA_DEPENDENCY_RULE = 14, /* declared dependency */
   SAGA_DIRTY_READ = 15,      /* dirty read */
   SAGA_ON_RING = 16,         /* on a ring */
   SAGA_MUST_WAIT = 17,       /* undo must wait */
   SAGA_FULL = 18,            /* 256 operations accepted already */
-  SAGA_NO_ROOM = 19          /* lent room too small */
+  SAGA_NO_ROOM = 19,         /* lent room too small */
+  SAGA_ALREADY_ENDED = 20    /* operation already ended */
 };
 
 /* The answer of every function that can refuse: always the same four numbers. */

@@ -15,7 +15,7 @@ pub const LINE_BYTES: usize = 96;
 /// The answer of every function that can refuse: always the same four numbers.
 #[derive(Clone, Copy, Debug, PartialEq, Eq)]
 pub struct Answer {
-    /// The refusal's number, 1 to 19 in the table of refusals; 0 if nothing is refused.
+    /// The refusal's number in the table of refusals; 0 if nothing is refused.
     pub refusal: u64,
     /// How many events of the book are accepted: all of them, or those before the refusal.
     pub events: u64,

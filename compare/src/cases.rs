@@ -120,7 +120,7 @@ pub fn made(seed: u64, count: u64) -> Vec<Case> {
         let bytes = book(seed, index).bytes;
         let room = room(index, bytes.len());
         cases.push(Case::Book(bytes, room));
-        if index % 4 == 0 {
+        if index.is_multiple_of(4) {
             let fields = field_list(seed, index);
             let room = self::room(index, fields.len());
             cases.push(Case::Fields(fields, room));
@@ -130,7 +130,7 @@ pub fn made(seed: u64, count: u64) -> Vec<Case> {
 }
 
 fn room(index: u64, about: usize) -> usize {
-    if index % 3 == 0 {
+    if index.is_multiple_of(3) {
         (about + index as usize / 3 % 3)
             .saturating_sub(1)
             .min(MOST_ROOM)
@@ -201,6 +201,13 @@ mod tests {
                 Case::Fields(vec![7, 300], MOST_ROOM)
             ]
         );
+    }
+
+    #[test]
+    fn the_fixed_cases_are_all_read() {
+        let text = include_str!("../fixed.txt");
+        let lines = text.lines().filter(|line| line.starts_with(['b', 'w']));
+        assert_eq!(fixed(text).map(|cases| cases.len()), Ok(lines.count()));
     }
 
     #[test]

@@ -1,11 +1,13 @@
 //! How often each kind of book was made, and how often each refusal came up.
 
 use crate::books::Made;
+use crate::singles::Singles;
 use std::collections::BTreeMap;
 use std::fmt;
 
-/// Reading a book never comes to 19.
-const HIGHEST_OF_READING: usize = 18;
+const HIGHEST_OF_READING: usize = 20;
+/// The lent room is too small: reading never comes to that.
+const NEVER_OF_READING: usize = 19;
 /// So many books must bring up every refusal.
 const ENOUGH_BOOKS: u64 = 2000;
 
@@ -16,6 +18,12 @@ pub struct Counts {
     events: u64,
     kinds: BTreeMap<&'static str, u64>,
     numbers: [u64; HIGHEST_OF_READING + 1],
+    singles: Singles,
+}
+
+/// The refusals that reading can come to.
+fn of_reading() -> impl Iterator<Item = usize> {
+    (1..=HIGHEST_OF_READING).filter(|number| *number != NEVER_OF_READING)
 }
 
 impl Counts {
@@ -26,6 +34,7 @@ impl Counts {
         self.events += reading.events as u64;
         *self.kinds.entry(made.kind).or_default() += 1;
         self.numbers[usize::from(reading.number)] += 1;
+        self.singles.count(&made.bytes, &reading);
     }
 
     /// The refusals that never came up though enough books were counted.
@@ -33,7 +42,7 @@ impl Counts {
         if self.books < ENOUGH_BOOKS {
             return Vec::new();
         }
-        (1..=HIGHEST_OF_READING)
+        of_reading()
             .filter(|number| self.numbers[*number] == 0)
             .collect()
     }
@@ -47,10 +56,10 @@ impl fmt::Display for Counts {
             writeln!(output, "kind {count:6} {kind}")?;
         }
         writeln!(output, "read {:6} accepted", self.numbers[0])?;
-        for (number, count) in self.numbers.iter().enumerate().skip(1) {
-            writeln!(output, "read {count:6} refused {number}")?;
+        for number in of_reading() {
+            writeln!(output, "read {:6} refused {number}", self.numbers[number])?;
         }
-        Ok(())
+        write!(output, "{}", self.singles)
     }
 }
 
@@ -82,10 +91,12 @@ mod tests {
         }
         assert_eq!(counts.missing(), [0; 0], "too few to tell");
         counts.count(&empty);
-        let all_but_2 = (1..=18).filter(|number| *number != 2).collect::<Vec<_>>();
-        assert_eq!(counts.missing(), all_but_2);
+        let all_but_2 = [1].into_iter().chain(3..=18).chain([20]);
+        assert_eq!(counts.missing(), all_but_2.collect::<Vec<_>>());
         let text = counts.to_string();
         assert!(text.contains("kind   2000 empty\n"));
         assert!(text.contains("read   2000 refused 2\n"));
+        assert!(text.contains("refused 18\n") && !text.contains("refused 19\n"));
+        assert!(text.contains("single      0 commits accepted\n"));
     }
 }

@@ -244,7 +244,7 @@ pub fn bad_edition(random: &mut Random) -> Made {
 pub fn bad_event_code(random: &mut Random) -> Made {
     let draft = short_story(random).draft;
     let mut fields = draft.fields();
-    let code = random.pick(&[0, 6, 7, 127, 128, 256, 257, 16_385, u16::MAX]);
+    let code = random.pick(&[0, 8, 9, 127, 128, 256, 257, 16_385, u16::MAX]);
     if random.one_in(2) {
         fields.push(code);
     } else {

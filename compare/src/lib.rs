@@ -10,5 +10,6 @@ mod draft;
 mod model;
 mod noise;
 mod random;
+mod singles;
 mod story;
 mod tables;

@@ -39,14 +39,22 @@ pub enum Circumstance {
     In(Phase),
     /// The phase of the base and the kind of a dependency that bars.
     Entry(Phase, u16),
+    /// The phase of a read, and of a write before it that isn't settled, and
+    /// whether both belong to one transaction.
+    Dirty(Phase, Phase, bool),
     /// Whether a ring closes among transactions that aren't committed.
     Ring(bool),
+    /// Whether a ring closes by ties of active operations only.
+    RingOfActive(bool),
+    /// Whether the operation that is to end alone is a write.
+    Single(bool),
 }
 
 #[derive(Clone, Debug)]
 pub struct Operation {
     object: u16,
     writes: bool,
+    phase: Phase,
     pub responsible: usize,
     /// The earlier operations it is tied to.
     tied: Vec<usize>,
@@ -118,6 +126,25 @@ impl Model {
         active
     }
 
+    /// The active plain transactions.
+    pub fn active_plain(&self) -> Vec<usize> {
+        let mut active = self.in_phase(Phase::Active);
+        active.retain(|t| self.sorts[*t] == Sort::Plain);
+        active
+    }
+
+    /// The active operations that plain transactions answer for.
+    pub fn operations_to_end_alone(&self) -> Vec<usize> {
+        let all = 0..self.operations.len();
+        all.filter(|operation| {
+            let Operation {
+                phase, responsible, ..
+            } = self.operations[*operation];
+            phase == Phase::Active && self.sorts[responsible] == Sort::Plain
+        })
+        .collect()
+    }
+
     fn delegates(&self, t: usize) -> bool {
         matches!(self.sorts[t], Sort::Plain | Sort::Step { .. })
     }
@@ -137,19 +164,28 @@ impl Model {
             Event::Delegate(giver, receiver, operation) => {
                 self.verdict_on_delegation(giver.into(), receiver.into(), operation.into())
             }
+            Event::CommitOperation(t, operation) => {
+                self.verdict_on_single_commit(t.into(), operation.into())
+            }
+            Event::AbortOperation(t, operation) => {
+                self.verdict_on_single_end(t.into(), operation.into())
+            }
         }
     }
 
     fn is_known(&self, event: Event) -> bool {
         let transaction = |t: u16| usize::from(t) < self.transactions();
+        let accepted = |operation: u16| usize::from(operation) < self.operations.len();
         match event {
             Event::Begin(t) | Event::Commit(t) | Event::Abort(t) => transaction(t),
             Event::Operation(t, object, mark) => {
                 transaction(t) && object < self.objects && mark < 2
             }
             Event::Delegate(giver, receiver, operation) => {
-                let accepted = usize::from(operation) < self.operations.len();
-                transaction(giver) && transaction(receiver) && accepted
+                transaction(giver) && transaction(receiver) && accepted(operation)
+            }
+            Event::CommitOperation(t, operation) | Event::AbortOperation(t, operation) => {
+                transaction(t) && accepted(operation)
             }
         }
     }
@@ -173,7 +209,7 @@ impl Model {
             13
         } else if self.entries_of(t).any(bars_commit) {
             14
-        } else if self.unsettled_writes_read_by(t).next().is_some() {
+        } else if self.dirty_reads_of(t).next().is_some() {
             15
         } else if self.is_on_a_ring(t) {
             16
@@ -222,7 +258,7 @@ impl Model {
                 (t, Sort::Saga { steps }) => vec![!is(t + steps, Phase::Committed)],
                 _ => Vec::new(),
             },
-            Event::Operation(..) | Event::Delegate(..) => Vec::new(),
+            _ => Vec::new(),
         };
         conditions.iter().filter(|holds| !**holds).count()
     }
@@ -257,6 +293,29 @@ impl Model {
         }
     }
 
+    fn verdict_on_single_commit(&self, t: usize, operation: usize) -> u8 {
+        match self.verdict_on_single_end(t, operation) {
+            0 if self.unsettled_writes_before(t, operation).next().is_some() => 15,
+            0 if self.is_on_a_ring(t) => 16,
+            number => number,
+        }
+    }
+
+    /// What commit and abort of a single operation have in common.
+    fn verdict_on_single_end(&self, t: usize, operation: usize) -> u8 {
+        if self.sorts[t] != Sort::Plain {
+            9
+        } else if self.phases[t] != Phase::Active {
+            11
+        } else if self.operations[operation].responsible != t {
+            12
+        } else if self.operations[operation].phase != Phase::Active {
+            20
+        } else {
+            0
+        }
+    }
+
     /// The phase of the base and the kind of each entry of a dependent.
     fn entries_of(&self, dependent: usize) -> impl Iterator<Item = (Phase, u16)> + '_ {
         self.dependencies
@@ -265,29 +324,47 @@ impl Model {
             .map(|[_, base, kind]| (self.phases[usize::from(*base)], *kind))
     }
 
-    /// An operation stands as the transaction that answers for it.
-    fn operation_phase(&self, operation: usize) -> Phase {
-        self.phases[self.operations[operation].responsible]
+    pub fn operation_phase(&self, operation: usize) -> Phase {
+        self.operations[operation].phase
     }
 
     fn active_conflicts(&self, object: u16, writes: bool) -> impl Iterator<Item = usize> + '_ {
         (0..self.operations.len()).filter(move |p| {
             let earlier = &self.operations[*p];
-            earlier.object == object
-                && (earlier.writes || writes)
-                && self.operation_phase(*p) == Phase::Active
+            earlier.object == object && (earlier.writes || writes) && earlier.phase == Phase::Active
         })
     }
 
-    /// The writes tied before a read of `t` that are neither committed nor its own.
-    fn unsettled_writes_read_by(&self, t: usize) -> impl Iterator<Item = usize> + '_ {
-        let own_reads = self
-            .operations
-            .iter()
-            .filter(move |operation| operation.responsible == t && !operation.writes);
-        let writes = own_reads.flat_map(|read| read.tied.iter().copied());
-        writes.filter(move |p| {
-            self.operation_phase(*p) != Phase::Committed && self.operations[*p].responsible != t
+    /// The reads that bar a commit of `t`, each with a write that makes it dirty.
+    fn dirty_reads_of(&self, t: usize) -> impl Iterator<Item = (usize, usize)> + '_ {
+        let own = (0..self.operations.len()).filter(move |q| {
+            let operation = &self.operations[*q];
+            operation.responsible == t && operation.phase != Phase::Aborted
+        });
+        own.flat_map(move |q| self.unsettled_writes_before(t, q).map(move |p| (q, p)))
+    }
+
+    /// Whether a read that was kept alone bars a commit of `t`.
+    pub fn is_barred_by_kept_read(&self, t: usize) -> bool {
+        let mut dirty = self.dirty_reads_of(t);
+        dirty.any(|(q, _)| self.operation_phase(q) == Phase::Committed)
+    }
+
+    /// If the operation is a read, the writes tied before it that are neither
+    /// committed nor both active and `t`'s own.
+    fn unsettled_writes_before(&self, t: usize, q: usize) -> impl Iterator<Item = usize> + '_ {
+        let operation = &self.operations[q];
+        let tied = operation.tied.iter().copied();
+        tied.filter(move |p| {
+            let Operation {
+                phase, responsible, ..
+            } = self.operations[*p];
+            let settled = match phase {
+                Phase::Committed => true,
+                Phase::Active => responsible == t,
+                Phase::Idle | Phase::Aborted => false,
+            };
+            !operation.writes && !settled
         })
     }
 
@@ -297,10 +374,16 @@ impl Model {
 
     /// Whether there is a ring even without the committed transactions.
     fn is_on_a_ring_of_active_ones(&self, t: usize) -> bool {
-        let mut pairs = self.pairs();
-        for committed in self.in_phase(Phase::Committed) {
-            pairs[committed] = 0;
-        }
+        let pairs = self.pairs_by_ties_of(|operation| {
+            operation.phase != Phase::Aborted
+                && self.phases[operation.responsible] != Phase::Committed
+        });
+        leads_back(&pairs, t)
+    }
+
+    /// Whether there is a ring even without the ended operations.
+    fn is_on_a_ring_of_active_operations(&self, t: usize) -> bool {
+        let pairs = self.pairs_by_ties_of(|operation| operation.phase == Phase::Active);
         leads_back(&pairs, t)
     }
 
@@ -322,22 +405,55 @@ impl Model {
                 let t = usize::from(t);
                 let barring = self.entries_of(t).find(|entry| bars_commit(*entry));
                 let entry = barring.map(|(base, kind)| Entry(base, kind));
-                let write = self.unsettled_writes_read_by(t).next();
-                let unsettled = write.map(|write| In(self.operation_phase(write)));
-                let ring = Ring(self.is_on_a_ring_of_active_ones(t));
-                let on_commit = entry.into_iter().chain(unsettled).chain([ring]);
+                let dirty = self.dirty_reads_of(t).next();
+                let dirty = dirty.map(|(read, write)| self.dirty(read, write));
+                let on_commit = entry.into_iter().chain(dirty).chain(self.rings(t));
                 [self.around(t), on_commit.collect()].concat()
             }
             Event::Abort(t) => self.around(usize::from(t)),
             Event::Operation(t, ..) => vec![Of(self.sorts[usize::from(t)].name())],
-            Event::Delegate(giver, receiver, _) => [giver, receiver]
-                .into_iter()
-                .flat_map(|t| {
-                    let t = usize::from(t);
-                    [Of(self.sorts[t].name()), In(self.phases[t])]
-                })
-                .collect(),
+            Event::Delegate(giver, receiver, operation) => {
+                let operation = In(self.operation_phase(operation.into()));
+                [self.acting(giver), self.acting(receiver), vec![operation]].concat()
+            }
+            Event::CommitOperation(t, operation) => {
+                let (acting, t) = (self.acting(t), usize::from(t));
+                let operation = usize::from(operation);
+                let write = self.unsettled_writes_before(t, operation).next();
+                let dirty = write.map(|write| self.dirty(operation, write));
+                let on_commit = dirty.into_iter().chain(self.rings(t));
+                [acting, self.single(operation), on_commit.collect()].concat()
+            }
+            Event::AbortOperation(t, operation) => {
+                [self.acting(t), self.single(operation.into())].concat()
+            }
         }
+    }
+
+    fn acting(&self, t: u16) -> Vec<Circumstance> {
+        let t = usize::from(t);
+        vec![
+            Circumstance::Of(self.sorts[t].name()),
+            Circumstance::In(self.phases[t]),
+        ]
+    }
+
+    fn single(&self, operation: usize) -> Vec<Circumstance> {
+        let Operation { phase, writes, .. } = self.operations[operation];
+        vec![Circumstance::Single(writes), Circumstance::In(phase)]
+    }
+
+    fn dirty(&self, read: usize, write: usize) -> Circumstance {
+        let (read, write) = (&self.operations[read], &self.operations[write]);
+        let of_one = read.responsible == write.responsible;
+        Circumstance::Dirty(read.phase, write.phase, of_one)
+    }
+
+    fn rings(&self, t: usize) -> [Circumstance; 2] {
+        [
+            Circumstance::Ring(self.is_on_a_ring_of_active_ones(t)),
+            Circumstance::RingOfActive(self.is_on_a_ring_of_active_operations(t)),
+        ]
     }
 
     /// The sort of a transaction and the phases its saga's rules look at.
@@ -359,15 +475,17 @@ impl Model {
 
     /// Bit b of row a: a stands before b by one tie.
     pub fn pairs(&self) -> [u64; 64] {
+        self.pairs_by_ties_of(|operation| operation.phase != Phase::Aborted)
+    }
+
+    /// The pairs by ties between operations that count.
+    fn pairs_by_ties_of(&self, counts: impl Fn(&Operation) -> bool) -> [u64; 64] {
         let mut pairs = [0; 64];
-        for (q, later) in self.operations.iter().enumerate() {
-            if self.operation_phase(q) == Phase::Aborted {
-                continue;
-            }
-            for p in &later.tied {
-                let earlier = self.operations[*p].responsible;
-                if earlier != later.responsible && self.operation_phase(*p) != Phase::Aborted {
-                    pairs[earlier] |= 1 << later.responsible;
+        for later in self.operations.iter().filter(|later| counts(later)) {
+            let tied = later.tied.iter().map(|p| &self.operations[*p]);
+            for earlier in tied.filter(|earlier| counts(earlier)) {
+                if earlier.responsible != later.responsible {
+                    pairs[earlier.responsible] |= 1 << later.responsible;
                 }
             }
         }
@@ -378,20 +496,41 @@ impl Model {
     pub fn take(&mut self, event: Event) {
         match event {
             Event::Begin(t) => self.phases[usize::from(t)] = Phase::Active,
-            Event::Commit(t) => self.phases[usize::from(t)] = Phase::Committed,
-            Event::Abort(t) => self.phases[usize::from(t)] = Phase::Aborted,
+            Event::Commit(t) => self.end(t.into(), Phase::Committed),
+            Event::Abort(t) => self.end(t.into(), Phase::Aborted),
             Event::Operation(t, object, mark) => {
                 let writes = mark == 1;
                 let tied = self.active_conflicts(object, writes).collect();
                 self.operations.push(Operation {
                     object,
                     writes,
+                    phase: Phase::Active,
                     responsible: t.into(),
                     tied,
                 });
             }
             Event::Delegate(_, receiver, operation) => {
-                self.operations[usize::from(operation)].responsible = receiver.into();
+                let operation = &mut self.operations[usize::from(operation)];
+                if operation.phase == Phase::Active {
+                    operation.responsible = receiver.into();
+                }
+            }
+            Event::CommitOperation(_, operation) => {
+                self.operations[usize::from(operation)].phase = Phase::Committed;
+            }
+            Event::AbortOperation(_, operation) => {
+                self.operations[usize::from(operation)].phase = Phase::Aborted;
+            }
+        }
+    }
+
+    /// Ends a transaction, and in the same way the active operations it
+    /// answers for.
+    fn end(&mut self, t: usize, phase: Phase) {
+        self.phases[t] = phase;
+        for operation in &mut self.operations {
+            if operation.responsible == t && operation.phase == Phase::Active {
+                operation.phase = phase;
             }
         }
     }

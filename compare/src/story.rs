@@ -15,6 +15,10 @@ struct Mood {
     delegate: usize,
     /// Events that move a saga on.
     saga: usize,
+    /// Commits of a single operation.
+    keep: usize,
+    /// Aborts of a single operation.
+    drop: usize,
 }
 
 const EVEN: Mood = Mood {
@@ -24,6 +28,8 @@ const EVEN: Mood = Mood {
     operate: 20,
     delegate: 6,
     saga: 5,
+    keep: 3,
+    drop: 2,
 };
 const WORKING: Mood = Mood {
     operate: 40,
@@ -53,8 +59,23 @@ const MOVING_SAGAS: Mood = Mood {
     operate: 8,
     delegate: 3,
     saga: 30,
+    keep: 2,
+    drop: 1,
 };
-const MOODS: [Mood; 6] = [EVEN, WORKING, HANDING_ON, FAILING, SETTLING, MOVING_SAGAS];
+const SORTING_OUT: Mood = Mood {
+    keep: 15,
+    drop: 6,
+    ..EVEN
+};
+const MOODS: [Mood; 7] = [
+    EVEN,
+    WORKING,
+    HANDING_ON,
+    FAILING,
+    SETTLING,
+    MOVING_SAGAS,
+    SORTING_OUT,
+];
 const FILLING: Mood = Mood {
     begin: 20,
     operate: 400,
@@ -132,7 +153,7 @@ impl Story {
 
     /// Adds an event whatever becomes of it.
     pub fn stray(&mut self, random: &mut Random) {
-        let code = random.within(1..=5);
+        let code = random.within(1..=7);
         let event = wild_event(random, &self.model, code);
         if !self.go_on_with(event) {
             self.draft.events.push(event);
@@ -149,6 +170,8 @@ fn draw_event(random: &mut Random, model: &Model, mood: Mood) -> Option<Event> {
         mood.operate,
         mood.delegate,
         mood.saga,
+        mood.keep,
+        mood.drop,
     ];
     let operating = model.active_operating();
     let sort = if operating.len() < 2 && random.one_in(2) {
@@ -173,8 +196,17 @@ fn draw_event(random: &mut Random, model: &Model, mood: Mood) -> Option<Event> {
             let receiver = draw(random, &model.active_delegating())?;
             Some(Event::Delegate(giver as u16, receiver, operation))
         }
-        _ => draw_saga_event(random, model),
+        5 => draw_saga_event(random, model),
+        6 => draw_own(random, model).map(|(t, own)| Event::CommitOperation(t, own)),
+        _ => draw_own(random, model).map(|(t, own)| Event::AbortOperation(t, own)),
     }
+}
+
+/// An active operation and the plain transaction that answers for it.
+fn draw_own(random: &mut Random, model: &Model) -> Option<(u16, u16)> {
+    let operation = draw(random, &model.operations_to_end_alone())?;
+    let t = model.operations[usize::from(operation)].responsible;
+    Some((t as u16, operation))
 }
 
 /// An event that moves some saga on, forth or back; none if it has come to its end.
@@ -245,12 +277,31 @@ pub fn wild_event(random: &mut Random, model: &Model, code: usize) -> Event {
             wild_field(random, model.objects.into()),
             wild_field(random, 2),
         ),
-        _ => Event::Delegate(
+        5 => Event::Delegate(
             transaction(),
             transaction(),
             wild_field(random, model.operations.len()),
         ),
+        6 => {
+            let (t, operation) = wild_end(random, model);
+            Event::CommitOperation(t, operation)
+        }
+        _ => {
+            let (t, operation) = wild_end(random, model);
+            Event::AbortOperation(t, operation)
+        }
     }
+}
+
+/// A transaction and an operation that it is to end alone. Every other time it
+/// is the one that answers for it.
+fn wild_end(random: &mut Random, model: &Model) -> (u16, u16) {
+    let operation = wild_field(random, model.operations.len());
+    let t = match model.operations.get(usize::from(operation)) {
+        Some(operation) if random.one_in(2) => operation.responsible as u16,
+        _ => wild_field(random, model.transactions()),
+    };
+    (t, operation)
 }
 
 /// Mostly a number below the limit.
@@ -339,6 +390,14 @@ mod tests {
                 receiver,
                 operation,
             },
+            Event::CommitOperation(transaction, operation) => second::Event::CommitOperation {
+                transaction,
+                operation,
+            },
+            Event::AbortOperation(transaction, operation) => second::Event::AbortOperation {
+                transaction,
+                operation,
+            },
         }
     }
 
@@ -348,7 +407,7 @@ mod tests {
         let mut model = Model::new(&story.draft.tables);
         let mut reading = second::read(&encode(&story.draft.tables.fields()));
         for event in &story.draft.events {
-            for code in [1, 2, 2, 3, 4, 5] {
+            for code in [1, 2, 2, 3, 4, 5, 6, 6, 7] {
                 let other = wild_event(random, &model, code);
                 let mut state = reading.state.clone();
                 let answer = state.offer(&reading.tables, as_second_reads_it(other));

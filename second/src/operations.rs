@@ -14,6 +14,14 @@ impl OperationSet {
     pub const EMPTY: OperationSet = OperationSet([0; WORDS]);
     pub const ALL: OperationSet = OperationSet([u64::MAX; WORDS]);
 
+    /// The set of one operation.
+    #[inline]
+    pub fn of(operation: usize) -> OperationSet {
+        let mut set = OperationSet::EMPTY;
+        set.insert(operation);
+        set
+    }
+
     #[inline]
     pub fn insert(&mut self, operation: usize) {
         self.0[operation / BITS] |= 1 << (operation % BITS);
@@ -109,6 +117,7 @@ mod tests {
         ends.remove(0);
         assert_eq!(ends.lowest(), Some(63));
         assert_eq!(OperationSet::EMPTY.lowest(), None);
+        assert_eq!(OperationSet::of(64), set(&[64]));
         assert!(OperationSet::EMPTY.is_empty() && !ends.is_empty());
     }
 

@@ -25,7 +25,7 @@ pub const NEVER_DONE: u8 = 9;
 pub const NOT_IDLE: u8 = 10;
 /// The acting transaction, or the receiver, isn't active.
 pub const NOT_ACTIVE: u8 = 11;
-/// The delegator isn't responsible for the operation.
+/// The delegator, or the one that ends an operation alone, isn't responsible for it.
 pub const NOT_RESPONSIBLE: u8 = 12;
 /// The rules of the saga bar it.
 pub const SAGA_RULE: u8 = 13;
@@ -41,3 +41,5 @@ pub const UNDO_MUST_WAIT: u8 = 17;
 pub const OPERATIONS_USED_UP: u8 = 18;
 /// The lent room is too small.
 pub const ROOM_TOO_SMALL: u8 = 19;
+/// The operation that is to end alone has ended already.
+pub const ALREADY_ENDED: u8 = 20;

@@ -29,8 +29,8 @@ pub struct State {
     committed: u64,
     aborted: u64,
     /// For each ended transaction, how many operations were accepted by then.
-    /// The operations it answers for ended with it, so this tells which later
-    /// operations found them still active.
+    /// The operations it answers for ended with it, but for those that ended
+    /// alone before, so this tells which later operations found them active.
     ended_at: [u16; MOST_TRANSACTIONS],
 
     /// How many operations are accepted.
@@ -41,6 +41,10 @@ pub struct State {
     active_operations: OperationSet,
     committed_operations: OperationSet,
     aborted_operations: OperationSet,
+    /// The operations that were committed or aborted by themselves.
+    ended_alone: OperationSet,
+    /// For each of these, how many operations were accepted by then.
+    alone_ended_at: [u16; MOST_OPERATIONS],
     /// The operations on each object.
     on_object: [OperationSet; MOST_OBJECTS],
     /// The operations each transaction is responsible for now.
@@ -75,6 +79,8 @@ impl State {
         active_operations: OperationSet::EMPTY,
         committed_operations: OperationSet::EMPTY,
         aborted_operations: OperationSet::EMPTY,
+        ended_alone: OperationSet::EMPTY,
+        alone_ended_at: [0; MOST_OPERATIONS],
         on_object: [OperationSet::EMPTY; MOST_OBJECTS],
         answered_by: [OperationSet::EMPTY; MOST_TRANSACTIONS],
     };
@@ -157,7 +163,7 @@ impl State {
 
     /// Judges one event and, if it is accepted, takes it in. A refused one
     /// changes nothing, so the caller may go on with another.
-    #[inline]
+    #[inline(always)]
     pub fn offer(&mut self, tables: &Tables, event: Event) -> Result<(), u8> {
         match event {
             Event::Begin { transaction } => self.begin(tables, transaction),
@@ -173,6 +179,14 @@ impl State {
                 receiver,
                 operation,
             } => self.delegate(tables, giver, receiver, operation),
+            Event::CommitOperation {
+                transaction,
+                operation,
+            } => self.commit_operation(tables, transaction, operation),
+            Event::AbortOperation {
+                transaction,
+                operation,
+            } => self.abort_operation(tables, transaction, operation),
         }
     }
 
@@ -196,7 +210,8 @@ impl State {
             self.dependencies_let_commit(tables, t),
             refusal::DECLARED_DEPENDENCY,
         )?;
-        refuse_unless(!self.has_dirty_read(t), refusal::DIRTY_READ)?;
+        let own_reads = self.answered_by[t].without(&self.writes);
+        refuse_unless(!self.has_dirty_read(t, own_reads), refusal::DIRTY_READ)?;
         refuse_unless(!self.is_on_a_ring(t), refusal::ON_A_RING)?;
         let ended = self.end_operations(t);
         self.committed_operations = self.committed_operations.or(&ended);
@@ -259,6 +274,8 @@ impl State {
         }
     }
 
+    /// Makes another transaction responsible for an operation. One that has
+    /// ended stays where it is.
     fn delegate(
         &mut self,
         tables: &Tables,
@@ -277,10 +294,59 @@ impl State {
             self.responsible(operation) == giver,
             refusal::NOT_RESPONSIBLE,
         )?;
-        self.responsible[operation] = receiver as u8;
-        self.answered_by[giver].remove(operation);
-        self.answered_by[receiver].insert(operation);
+        if self.active_operations.contains(operation) {
+            self.responsible[operation] = receiver as u8;
+            self.answered_by[giver].remove(operation);
+            self.answered_by[receiver].insert(operation);
+        }
         Ok(())
+    }
+
+    fn commit_operation(
+        &mut self,
+        tables: &Tables,
+        transaction: u16,
+        operation: u16,
+    ) -> Result<(), u8> {
+        let (t, operation) = self.own_active_operation(tables, transaction, operation)?;
+        let read = OperationSet::of(operation).without(&self.writes);
+        refuse_unless(!self.has_dirty_read(t, read), refusal::DIRTY_READ)?;
+        refuse_unless(!self.is_on_a_ring(t), refusal::ON_A_RING)?;
+        self.end_alone(operation);
+        self.committed_operations.insert(operation);
+        Ok(())
+    }
+
+    fn abort_operation(
+        &mut self,
+        tables: &Tables,
+        transaction: u16,
+        operation: u16,
+    ) -> Result<(), u8> {
+        let (_, operation) = self.own_active_operation(tables, transaction, operation)?;
+        self.end_alone(operation);
+        self.aborted_operations.insert(operation);
+        Ok(())
+    }
+
+    /// The transaction and the operation, if the one may end the other alone
+    /// as far as dirty reads and rings are left out.
+    fn own_active_operation(
+        &self,
+        tables: &Tables,
+        transaction: u16,
+        operation: u16,
+    ) -> Result<(usize, usize), u8> {
+        let t = known_transaction(tables, transaction)?;
+        let operation = self.known_operation(operation)?;
+        refuse_unless(tables.sort(t) == Sort::Plain, refusal::NEVER_DONE)?;
+        refuse_unless(self.is_active(t), refusal::NOT_ACTIVE)?;
+        refuse_unless(self.responsible(operation) == t, refusal::NOT_RESPONSIBLE)?;
+        refuse_unless(
+            self.active_operations.contains(operation),
+            refusal::ALREADY_ENDED,
+        )?;
+        Ok((t, operation))
     }
 
     fn known_operation(&self, operation: u16) -> Result<usize, u8> {
@@ -360,7 +426,8 @@ impl State {
     }
 
     /// How many operations were accepted before the operations `t` answers for
-    /// ended: those from this number on did not find them active.
+    /// ended, but for those that ended alone: operations from this number on
+    /// did not find them active.
     #[inline]
     fn operations_before_end(&self, t: usize) -> usize {
         if self.is_ended(t) {
@@ -370,25 +437,50 @@ impl State {
         }
     }
 
-    /// Whether a read that `t` answers for is tied after a write that is
-    /// neither committed nor its own. Of the writes one transaction answers
-    /// for, the lowest on an object ties the most.
-    fn has_dirty_read(&self, t: usize) -> bool {
-        let own = &self.answered_by[t];
-        let unsettled = self.writes.without(&self.committed_operations).without(own);
-        let mut reads = own.without(&self.writes);
+    /// How many operations were accepted before this one ended.
+    #[inline]
+    fn operations_before_end_of(&self, operation: usize) -> usize {
+        if self.ended_alone.contains(operation) {
+            usize::from(self.alone_ended_at[operation])
+        } else {
+            self.operations_before_end(self.responsible(operation))
+        }
+    }
+
+    /// The operations that were active up to the same moment as this one, or
+    /// still are: itself if it ended alone, else all its transaction answers
+    /// for that did not.
+    #[inline]
+    fn active_as_long_as(&self, operation: usize) -> OperationSet {
+        if self.ended_alone.contains(operation) {
+            OperationSet::of(operation)
+        } else {
+            self.answered_by[self.responsible(operation)].without(&self.ended_alone)
+        }
+    }
+
+    /// Whether one of these reads, all of which `t` answers for, is tied after
+    /// a write that is neither committed nor both active and its own. A read
+    /// that was aborted itself is passed over. Of writes on an object that
+    /// were active up to the same moment, the lowest ties the most.
+    fn has_dirty_read(&self, t: usize, reads: OperationSet) -> bool {
+        let own_active = self.answered_by[t].and(&self.active_operations);
+        let unsettled = self
+            .writes
+            .without(&self.committed_operations)
+            .without(&own_active);
+        let mut reads = reads.without(&self.aborted_operations);
         while let Some(read) = reads.lowest() {
             let on_object = &self.on_object[self.object(read)];
             let reads_here = reads.and(on_object);
             reads = reads.without(on_object);
             let mut suspects = on_object.and(&unsettled);
             while let Some(write) = suspects.lowest() {
-                let writer = self.responsible(write);
-                let found_active = self.operations_before_end(writer);
+                let found_active = self.operations_before_end_of(write);
                 if !reads_here.above(write).below(found_active).is_empty() {
                     return true;
                 }
-                suspects = suspects.without(&self.answered_by[writer]);
+                suspects = suspects.without(&self.active_as_long_as(write));
             }
         }
         false
@@ -435,20 +527,39 @@ impl State {
     }
 
     /// All operations tied after one that `earlier` answers for and that isn't
-    /// aborted. On each object a later write is tied after the lowest own
-    /// operation, a later read after the lowest own write, if after any.
+    /// aborted.
     fn tied_after(&self, earlier: usize) -> OperationSet {
-        let mut own = self.answered_by[earlier].without(&self.aborted_operations);
-        let mut tied = OperationSet::EMPTY;
-        while let Some(first) = own.lowest() {
-            let on_object = &self.on_object[self.object(first)];
-            tied = tied.or(&on_object.and(&self.writes).above(first));
-            if let Some(first_write) = own.and(on_object).and(&self.writes).lowest() {
-                tied = tied.or(&on_object.above(first_write));
-            }
-            own = own.without(on_object);
+        let own = self.answered_by[earlier].without(&self.aborted_operations);
+        let not_alone = own.without(&self.ended_alone);
+        let mut tied = self
+            .conflicting_after(not_alone)
+            .below(self.operations_before_end(earlier));
+        let mut alone = own.and(&self.ended_alone);
+        while let Some(operation) = alone.lowest() {
+            let found_active = self
+                .conflicting_after(OperationSet::of(operation))
+                .below(self.operations_before_end_of(operation));
+            tied = tied.or(&found_active);
+            alone.remove(operation);
         }
-        tied.below(self.operations_before_end(earlier))
+        tied
+    }
+
+    /// All operations that come after one of these and conflict with it. On
+    /// each object a later write conflicts with the lowest of these, a later
+    /// read with the lowest write among them, if with any.
+    fn conflicting_after(&self, mut operations: OperationSet) -> OperationSet {
+        let mut conflicting = OperationSet::EMPTY;
+        while let Some(first) = operations.lowest() {
+            let on_object = &self.on_object[self.object(first)];
+            conflicting = conflicting.or(&on_object.and(&self.writes).above(first));
+            let writes_here = operations.and(on_object).and(&self.writes);
+            if let Some(first_write) = writes_here.lowest() {
+                conflicting = conflicting.or(&on_object.above(first_write));
+            }
+            operations = operations.without(on_object);
+        }
+        conflicting
     }
 
     /// Notes that `t` ends now, takes the operations it answers for out of the
@@ -458,6 +569,14 @@ impl State {
         let ended = self.answered_by[t].and(&self.active_operations);
         self.active_operations = self.active_operations.without(&ended);
         ended
+    }
+
+    /// Notes that an operation ends now by itself, and takes it out of the
+    /// active ones.
+    fn end_alone(&mut self, operation: usize) {
+        self.alone_ended_at[operation] = self.accepted as u16;
+        self.ended_alone.insert(operation);
+        self.active_operations.remove(operation);
     }
 }
 

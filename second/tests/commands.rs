@@ -77,6 +77,25 @@ fn listing_and_pairs() {
 }
 
 #[test]
+fn single_operations() {
+    // Plain 0 writes two objects, keeps the first write and drops the second.
+    let book = [
+        1, 0, 1, 2, 0, 1, 0, 4, 0, 0, 1, 4, 0, 1, 1, 6, 0, 0, 7, 0, 1,
+    ];
+    let lines = "t 0 active\nop 0 0 write 0 committed\nop 1 1 write 0 aborted\n";
+    answers(&["listing"], &book, &format!("book accepted 5\n{lines}"));
+    let dropped_again = [&book[..], &[7, 0, 0]].concat();
+    let refused = format!("book refused 20 5 21\n{lines}");
+    answers(&["listing"], &dropped_again, &refused);
+    answers(&["unpack"], &dropped_again, "refused 20 5 21\n");
+    answers(
+        &["write"],
+        b"1 0 1 1 0 1 0 4 0 0 1 6 0 0",
+        "written 14\n01 00 01 01 00 01 00 04 00 00 01 06 00 00\n",
+    );
+}
+
+#[test]
 fn opening() {
     let with_refused_event = [&LISTED[..], &[1, 2]].concat();
     let output = run(&["opening"], &with_refused_event);

@@ -6,5 +6,6 @@ pub mod LongestLaws
 pub mod RunLaws
 pub mod WholeLaws
 pub mod PackingLaws
+pub mod PlaceLaws
 pub mod DemandsHold
 pub mod CasesHold

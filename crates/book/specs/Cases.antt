@@ -101,7 +101,7 @@ pCases =
 abbrev pub PCasesHold : Type 0
 PCasesHold = map (λ (c : Case). answerTo (c .question)) pCases ≡ map (λ (c : Case). c .answer) pCases
 
--- ---- no line of the table of refusals is dead: for each number from 2 to 18 a book that gets it
+-- ---- no line of the table of refusals is dead: for each number from 2 to 18, and for 20, a book that gets it
 
 -- a plain transaction, one object, no dependencies
 abbrev onePlain : List ℕ → List ℕ
@@ -128,8 +128,8 @@ refusedBooks =
     ∷ (0x01 ∷ 0x11 ∷ [])
     -- 6: a transaction depends on itself
     ∷ (0x01 ∷ 0x00 ∷ 0x01 ∷ 0x00 ∷ 0x01 ∷ 0x00 ∷ 0x00 ∷ 0x01 ∷ [])
-    -- 7: event code 6
-    ∷ onePlain (0x06 ∷ [])
+    -- 7: event code 8
+    ∷ onePlain (0x08 ∷ [])
     -- 8: begin of a transaction that is not there
     ∷ onePlain (0x01 ∷ 0x01 ∷ [])
     -- 9: a delegation to itself
@@ -151,6 +151,8 @@ refusedBooks =
     ∷ (listed ++ (0x01 ∷ 0x03 ∷ 0x04 ∷ 0x03 ∷ 0x00 ∷ 0x00 ∷ []))
     -- 18: the 257th operation
     ∷ onePlain (0x01 ∷ 0x00 ∷ times 257 (0x04 ∷ 0x00 ∷ 0x00 ∷ 0x00 ∷ []))
+    -- 20: an operation committed alone, and then aborted alone
+    ∷ onePlain (0x01 ∷ 0x00 ∷ 0x04 ∷ 0x00 ∷ 0x00 ∷ 0x01 ∷ 0x06 ∷ 0x00 ∷ 0x00 ∷ 0x07 ∷ 0x00 ∷ 0x00 ∷ [])
     ∷ []
 
 abbrev pub outcomeNumber : Outcome → ℕ
@@ -163,5 +165,5 @@ nothingDeclared = 1 ∷ 0 ∷ 0 ∷ 0 ∷ 0 ∷ []
 
 pub record NoLineDead : Type 0 where
   pub by-books : map (λ (s : List ℕ). verdictNumber (readingOf ceiling1 s .answer)) refusedBooks
-      ≡ 2 ∷ 3 ∷ 4 ∷ 5 ∷ 6 ∷ 7 ∷ 8 ∷ 9 ∷ 10 ∷ 11 ∷ 12 ∷ 13 ∷ 14 ∷ 15 ∷ 16 ∷ 17 ∷ 18 ∷ []
+      ≡ 2 ∷ 3 ∷ 4 ∷ 5 ∷ 6 ∷ 7 ∷ 8 ∷ 9 ∷ 10 ∷ 11 ∷ 12 ∷ 13 ∷ 14 ∷ 15 ∷ 16 ∷ 17 ∷ 18 ∷ 20 ∷ []
   pub by-writing : outcomeNumber (writeOutcome ceiling1 nothingDeclared []) ≡ 19

@@ -21,7 +21,7 @@ use Rattle.tables.proofs.SagaLaws.{owned-le, well-steps}
 use Rattle.judge.specs.Judge.{changeOf, judged, lines, stateAfter}
 use Rattle.judge.specs.States.{entered, own, phaseOf}
 use Rattle.judge.specs.declared.Event.{Event}
-use Rattle.judge.specs.declared.Event.the-variants.{Abort, Begin, Commit, Delegate, Operation as Invoke}
+use Rattle.judge.specs.declared.Event.the-variants.{Abort, AbortOne, Begin, Commit, CommitOne, Delegate, Operation as Invoke}
 use Rattle.judge.specs.declared.Phase.{Phase}
 use Rattle.judge.specs.declared.Phase.the-variants.{Aborted, Active, Committed}
 use Rattle.judge.specs.declared.State.{State}
@@ -194,6 +194,8 @@ module _ (tables : Tables) (well : Well tables) (i : ℕ) (listed : i < tables .
       (λ h es. refl)
   acts (Invoke t o m) v = quiet (λ k l. refl) (λ es. refl)
   acts (Delegate t r q) v = quiet (λ k l. refl) (λ es. refl)
+  acts (CommitOne t q) v = quiet (λ k l. refl) (λ es. refl)
+  acts (AbortOne t q) v = quiet (λ k l. refl) (λ es. refl)
 
 -- ---- phases that agree below 2n have the same invariant and the same history
 

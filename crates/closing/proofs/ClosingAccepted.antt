@@ -153,7 +153,7 @@ module _ (tables : Tables) (well : Well tables) (s : State) where
               (
                 saga-free (f + 0) f n x,
                 (
-                  not-dirty s (f + 0) (tidy .ends) a alone,
+                  not-dirty tables s (f + 0) (tidy .ends) (rw x) a alone,
                   (ring-free (s .ops) (f + 0) (none-before s (f + 0) alone), tt),
                 ),
               ),
@@ -172,7 +172,7 @@ module _ (tables : Tables) (well : Well tables) (s : State) where
               (
                 undo-free false (f + (n + j)) f n j x,
                 (
-                  not-dirty s (f + (n + j)) (tidy .ends) c alone,
+                  not-dirty tables s (f + (n + j)) (tidy .ends) (rw x) c alone,
                   (ring-free (s .ops) (f + (n + j)) (none-before s (f + (n + j)) alone), tt),
                 ),
               ),

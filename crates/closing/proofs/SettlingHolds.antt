@@ -22,7 +22,7 @@ use Rattle.judge.specs.Histories.{next, reached, run, taken}
 use Rattle.judge.specs.Judge.{changeOf, judged, stateAfter}
 use Rattle.judge.specs.States.{emptyState, entered, phaseOf}
 use Rattle.judge.specs.declared.Event.{Event}
-use Rattle.judge.specs.declared.Event.the-variants.{Abort, Begin, Commit, Delegate, Operation as Invoke}
+use Rattle.judge.specs.declared.Event.the-variants.{Abort, AbortOne, Begin, Commit, CommitOne, Delegate, Operation as Invoke}
 use Rattle.judge.specs.declared.Phase.{Phase}
 use Rattle.judge.specs.declared.Phase.the-variants.{Aborted, Active, Committed, Idle}
 use Rattle.judge.specs.declared.State.{State}
@@ -53,6 +53,8 @@ begun-kept t s (Commit u) h = entered-begun s u t Committed (omega arith) h
 begun-kept t s (Abort u) h = entered-begun s u t Aborted (omega arith) h
 begun-kept t s (Invoke u o m) h = h
 begun-kept t s (Delegate u r q) h = h
+begun-kept t s (CommitOne u q) h = h
+begun-kept t s (AbortOne u q) h = h
 
 begun-run : (tables : Tables) (t : ℕ) (es : List Event) (s : State) → 1 ≤ code (phaseOf (s .transactions) t)
     → 1 ≤ code (phaseOf (run tables s es .transactions) t)

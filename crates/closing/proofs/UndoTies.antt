@@ -14,21 +14,21 @@ use Rattle.laws.proofs.Decisions.{same-or}
 use Rattle.laws.proofs.IndexLaws.{any-off, off-any}
 use Rattle.terms.specs.declared.Verdict.the-variants.{Accepted}
 use Rattle.sets.specs.Reach.{at}
-use Rattle.ties.specs.Operations.{endedBy, endedOps, given, givenTo, heldBy, isAborted as isAbortedOp, isActive as isActiveOp, isCommitted as isCommittedOp, isWrite, made, mostOperations, newOp, opAt, size}
+use Rattle.ties.specs.Operations.{endedAlone, endedBy, endedOne, endedOps, given, givenTo, heldBy, isAborted as isAbortedOp, isActive as isActiveOp, isCommitted as isCommittedOp, isWrite, made, mostOperations, newOp, opAt, size}
 use Rattle.ties.specs.Ties.{apart, before, bothOwned, cleanFor, conflict, counts, dirties, dirty, dirtyAt, mustWait, neitherAborted, readBy, tied, tiedTo, waitsFor, wasActive}
 use Rattle.ties.specs.declared.Fate.{Fate}
 use Rattle.ties.specs.declared.Fate.the-variants.{Aborted as FateAborted, Committed as FateCommitted}
 use Rattle.ties.specs.declared.Mark.{Mark}
 use Rattle.ties.specs.declared.Operation.{Operation}
 use Rattle.ties.specs.declared.Ops.{Ops}
-use Rattle.ties.proofs.OpsLaws.{ended-at, given-at, made-at, made-room, size-ended, size-given, size-made}
-use Rattle.ties.proofs.TieLaws.{before-ties}
-use Rattle.tables.specs.Sorts.{isSaga, isUndo, sortOf}
+use Rattle.ties.proofs.OpsLaws.{ended-at, given-at, made-at, made-room, one-at, size-ended, size-given, size-made, size-one}
+use Rattle.ties.proofs.TieLaws.{Tie, before-ties, tie-made, tie-parts}
+use Rattle.tables.specs.Sorts.{isPlain, isSaga, isUndo, sortOf}
 use Rattle.tables.specs.declared.Tables.{Tables}
 use Rattle.judge.specs.Judge.{changeOf, judged, lines, noParty, stateAfter}
 use Rattle.judge.specs.States.{emptyState, phaseOf}
 use Rattle.judge.specs.declared.Event.{Event}
-use Rattle.judge.specs.declared.Event.the-variants.{Abort, Begin, Commit, Delegate, Operation as Invoke}
+use Rattle.judge.specs.declared.Event.the-variants.{Abort, AbortOne, Begin, Commit, CommitOne, Delegate, Operation as Invoke}
 use Rattle.judge.specs.declared.State.{State}
 use Rattle.judge.proofs.Endings.{Together, delegated-from, together-kept, together-start}
 use Rattle.judge.proofs.Invariants.{Lasting, size-count}
@@ -41,23 +41,6 @@ use Rattle.closing.proofs.OutstandingLaws.{bound}
 
 abbrev resp : Ops → ℕ → ℕ
 resp ops q = opAt ops q .responsible
-
--- the parts of a tie
-record Tie (ops : Ops) (p q : ℕ) : Type 0 where
-  accepted : q < size ops
-  earlier : p < q
-  holds : tiedTo (opAt ops p) (opAt ops q) q ≡ true
-
-tie-parts : (ops : Ops) (p q : ℕ) → tied ops p q ≡ true → Tie ops p q
-unfolding tied
-tie-parts ops p q h =
-    let x = on-and (ltb q (size ops)) (ltb p q && tiedTo (opAt ops p) (opAt ops q) q) h in
-    let y = on-and (ltb p q) (tiedTo (opAt ops p) (opAt ops q) q) (x .1) in
-    record { accepted = ltb-true q (size ops) (x .0); earlier = ltb-true p q (y .0); holds = y .1 }
-
-tie-made : (ops : Ops) (p q : ℕ) → Tie ops p q → tied ops p q ≡ true
-unfolding tied
-tie-made ops p q w = rw (lt-ltb q (size ops) (w .accepted), lt-ltb p q (w .earlier)) (w .holds)
 
 -- ending operations ties nothing anew
 end-tied : (t : ℕ) (fate : Fate) (n : ℕ) (a b : Operation) (q : ℕ) → tiedTo (endedBy t fate n a) (endedBy t fate n b) q ≡ true → tiedTo a b q ≡ true
@@ -91,6 +74,47 @@ ended-resp : (t : ℕ) (fate : Fate) (ops : Ops) (q : ℕ) → resp (endedOps t 
 ended-resp t fate ops q =
     ap (λ (op : Operation). op .responsible) (ended-at t fate ops q)
     ∙ bool-cases (ltb q (size ops)) (λ b. rw b (bool-cases (heldBy t (opAt ops q)) (λ a. rw a) (λ a. rw a))) (λ b. rw b)
+
+-- ending one operation alone ties nothing anew
+alone-tied : (x y : Bool) (fate : Fate) (n : ℕ) (a b : Operation) (q : ℕ)
+    → tiedTo (cond x (endedAlone fate n a) a) (cond y (endedAlone fate n b) b) q ≡ true → tiedTo a b q ≡ true
+unfolding tiedTo
+alone-tied x y fate n a b q h =
+    let parts = on-and (conflict a (b .object) (b .mark)) (wasActive (cond x (endedAlone fate n a) a) q) (sym (ap (λ (u : Bool). u && wasActive (cond x (endedAlone fate n a) a) q) same) ∙ h) in
+    and-on (conflict a (b .object) (b .mark)) (wasActive a q) (parts .0) (was (parts .1))
+  where
+    later : (p : Operation) → conflict p (cond y (endedAlone fate n b) b .object) (cond y (endedAlone fate n b) b .mark) ≡ conflict p (b .object) (b .mark)
+    later p = bool-cases y (λ j. rw j (bool-cases (isActiveOp (b .fate)) (λ d. rw d) (λ d. rw d))) (λ j. rw j)
+
+    same : conflict (cond x (endedAlone fate n a) a) (cond y (endedAlone fate n b) b .object) (cond y (endedAlone fate n b) b .mark) ≡ conflict a (b .object) (b .mark)
+    same =
+        bool-cases x
+        (λ i. rw i (bool-cases (isActiveOp (a .fate)) (λ c. rw c (later a)) (λ c. rw c (later a))))
+        (λ i. rw i (later a))
+
+    was-off : isActiveOp (a .fate) ≡ false → wasActive (cond x (endedAlone fate n a) a) q ≡ wasActive a q
+    was-off c = bool-cases x (λ i. rw (i, c) (rw c)) (λ i. rw i)
+
+    was : wasActive (cond x (endedAlone fate n a) a) q ≡ true → wasActive a q ≡ true
+    was g =
+        bool-cases (isActiveOp (a .fate))
+        (λ c. or-left (isActiveOp (a .fate)) (ltb q (a .ended)) c)
+        (λ c. sym (was-off c) ∙ g)
+
+one-tied : (k : ℕ) (fate : Fate) (ops : Ops) (p q : ℕ) → tied (endedOne k fate ops) p q ≡ true → tied ops p q ≡ true
+one-tied k fate ops p q h =
+    let w = tie-parts (endedOne k fate ops) p q h in
+    tie-made ops p q
+    (record {
+      accepted = omega (arith, w .accepted, size-one k fate ops);
+      earlier = w .earlier;
+      holds = alone-tied (eqb p k) (eqb q k) fate (size ops) (opAt ops p) (opAt ops q) q (rw (one-at k fate ops p, one-at k fate ops q) at (w .holds));
+    })
+
+one-resp : (k : ℕ) (fate : Fate) (ops : Ops) (q : ℕ) → resp (endedOne k fate ops) q ≡ resp ops q
+one-resp k fate ops q =
+    ap (λ (op : Operation). op .responsible) (one-at k fate ops q)
+    ∙ bool-cases (eqb q k) (λ b. rw b (bool-cases (isActiveOp (opAt ops q .fate)) (λ a. rw a) (λ a. rw a))) (λ b. rw b)
 
 -- giving an operation ties nothing anew
 give-conflict : (x y : Bool) (r : ℕ) (a b : Operation)
@@ -136,7 +160,7 @@ given-either k r ops Q a b =
 -- ---- what every accepted event keeps
 
 pub record Tidy (tables : Tables) (s : State) : Type 0 where
-  pub ends : Together s
+  pub ends : Together tables s
   -- ties into an undo's operation come from its own
   pub clear : (p q : ℕ) → isUndo (sortOf tables (resp (s .ops) q)) ≡ true → tied (s .ops) p q ≡ true → resp (s .ops) p ≡ resp (s .ops) q
   -- S is responsible for nothing
@@ -152,6 +176,16 @@ module _ (tables : Tables) (s : State) (tidy : Tidy tables s) where
 
   free-ended : (t : ℕ) (fate : Fate) (q : ℕ) → q < s .ops .count → isSaga (sortOf tables (resp (endedOps t fate (s .ops)) q)) ≡ false
   free-ended t fate q l = rw (ended-resp t fate (s .ops) q) (tidy .free q l)
+
+  clear-one : (k : ℕ) (fate : Fate) (p q : ℕ) → isUndo (sortOf tables (resp (endedOne k fate (s .ops)) q)) ≡ true
+      → tied (endedOne k fate (s .ops)) p q ≡ true → resp (endedOne k fate (s .ops)) p ≡ resp (endedOne k fate (s .ops)) q
+  clear-one k fate p q u w =
+      one-resp k fate (s .ops) p
+      ∙ tidy .clear p q (rw (one-resp k fate (s .ops) q) at u) (one-tied k fate (s .ops) p q w)
+      ∙ sym (one-resp k fate (s .ops) q)
+
+  free-one : (k : ℕ) (fate : Fate) (q : ℕ) → q < s .ops .count → isSaga (sortOf tables (resp (endedOne k fate (s .ops)) q)) ≡ false
+  free-one k fate q l = rw (one-resp k fate (s .ops) q) (tidy .free q l)
 
   -- a new operation
   module _ (t o : ℕ) (m : Mark) (off : Off (lines tables s (Invoke t o m))) where
@@ -256,7 +290,7 @@ module _ (tables : Tables) (s : State) (tidy : Tidy tables s) where
         (λ e. rw (given-resp k r (s .ops) q e) (tidy .free q l))
 
 pub tidy-kept : (tables : Tables) (s : State) (e : Event) → Tidy tables s → judged tables s e .verdict ≡ Accepted → Tidy tables (stateAfter (changeOf e) s)
-unfolding stateAfter endedOps given
+unfolding stateAfter endedOne endedOps given
 tidy-kept tables s (Begin t) h v = record { ends = together-kept tables s (Begin t) (h .ends) v; clear = h .clear; free = h .free }
 tidy-kept tables s (Commit t) h v =
     record { ends = together-kept tables s (Commit t) (h .ends) v; clear = clear-ended tables s h t FateCommitted; free = free-ended tables s h t FateCommitted }
@@ -268,11 +302,15 @@ tidy-kept tables s (Invoke t o m) h v =
 tidy-kept tables s (Delegate t r k) h v =
     let off = lines-off tables s (Delegate t r k) v in
     record { ends = together-kept tables s (Delegate t r k) (h .ends) v; clear = clear-given tables s h t r k off; free = free-given tables s h t r k off }
+tidy-kept tables s (CommitOne t k) h v =
+    record { ends = together-kept tables s (CommitOne t k) (h .ends) v; clear = clear-one tables s h k FateCommitted; free = free-one tables s h k FateCommitted }
+tidy-kept tables s (AbortOne t k) h v =
+    record { ends = together-kept tables s (AbortOne t k) (h .ends) v; clear = clear-one tables s h k FateAborted; free = free-one tables s h k FateAborted }
 
 pub tidy-start : (tables : Tables) → Tidy tables emptyState
 tidy-start tables =
     record {
-      ends = together-start;
+      ends = together-start tables;
       clear = λ p q u w. let parts = tie-parts (emptyState .ops) p q w in absurd (omega (arith, parts .accepted));
       free = λ q l. absurd (omega arith);
     }
@@ -298,10 +336,11 @@ module _ (s : State) (t : ℕ) (alone : Alone s t) where
       let same = alone (w .p) (w .q) (w .second) (tie-made (s .ops) (w .p) (w .q) (record { accepted = w .accepted; earlier = w .earlier; holds = x .0 })) in
       clash (eq-eqb (p .responsible) (q .responsible) (same ∙ sym (w .second))) (on-not (eqb (p .responsible) (q .responsible)) (z .0)))
 
--- an active transaction whose ties come from its own has no dirty read: what it read of its own is active still
-pub not-dirty : (s : State) (t : ℕ) → Together s → code (phaseOf (s .transactions) t) ≡ 1 → Alone s t → dirty (s .ops) t ≡ false
+-- an active transaction that is not plain and whose ties come from its own has no dirty read: what it read of its own is active still
+pub not-dirty : (tables : Tables) (s : State) (t : ℕ) → Together tables s → isPlain (sortOf tables t) ≡ false → code (phaseOf (s .transactions) t) ≡ 1
+    → Alone s t → dirty (s .ops) t ≡ false
 unfolding dirty dirtyAt
-not-dirty s t h running alone =
+not-dirty tables s t h sort running alone =
     any-off (size (s .ops)) (λ j. readBy t (opAt (s .ops) j) && anyBelow j (λ i. dirties t (opAt (s .ops) j) j (opAt (s .ops) i)))
     (λ j l.
     and-off (readBy t (opAt (s .ops) j)) (anyBelow j (λ i. dirties t (opAt (s .ops) j) j (opAt (s .ops) i)))
@@ -324,7 +363,7 @@ not-dirty s t h running alone =
         absurd
         (omega (
           arith,
-          h .over i (omega (arith, size-count s (h .lasts))) a,
+          h .over i (omega (arith, size-count s (h .lasts))) a (ap (λ (x : ℕ). isPlain (sortOf tables x)) his ∙ sort),
           ap (λ (x : ℕ). code (phaseOf (s .transactions) x)) his,
         )))
         in

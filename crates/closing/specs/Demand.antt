@@ -13,7 +13,7 @@ use Rattle.tables.specs.declared.Tables.{Tables}
 use Rattle.tables.specs.declared.TablesAnswer.the-variants.{Read}
 use Rattle.judge.specs.declared.Phase.the-variants.{Idle}
 use Rattle.judge.specs.declared.Event.{Event}
-use Rattle.judge.specs.declared.Event.the-variants.{Begin, Commit, Abort, Operation as Invoke, Delegate}
+use Rattle.judge.specs.declared.Event.the-variants.{Begin, Commit, Abort, Operation as Invoke, Delegate, CommitOne, AbortOne}
 use Rattle.judge.specs.declared.State.{State}
 use Rattle.judge.specs.Judge.{judged}
 use Rattle.judge.specs.Histories.{run, reached, history}
@@ -55,6 +55,8 @@ commitsOf f n (Commit t ∷ es) = cond (mine f n t) (t ∷ commitsOf f n es) (co
 commitsOf f n (Abort t ∷ es) = commitsOf f n es
 commitsOf f n (Invoke t o m ∷ es) = commitsOf f n es
 commitsOf f n (Delegate t r q ∷ es) = commitsOf f n es
+commitsOf f n (CommitOne t q ∷ es) = commitsOf f n es
+commitsOf f n (AbortOne t q ∷ es) = commitsOf f n es
 
 -- ---- others' events: any but a begin, commit or abort of the saga or its own steps and undos
 
@@ -64,6 +66,8 @@ foreign f n (Commit t) = not (mine f n t)
 foreign f n (Abort t) = not (mine f n t)
 foreign f n (Invoke t o m) = true
 foreign f n (Delegate t r q) = true
+foreign f n (CommitOne t q) = true
+foreign f n (AbortOne t q) = true
 
 unfoldable pub allForeign : ℕ → ℕ → List Event → Bool
 allForeign f n [] = true

@@ -14,19 +14,19 @@ use Rattle.laws.proofs.Decisions.{lt-or, same-or}
 use Rattle.terms.specs.Limits.{mostTransactions}
 use Rattle.terms.specs.declared.Verdict.the-variants.{Accepted}
 use Rattle.sets.specs.Reach.{at}
-use Rattle.ties.specs.Operations.{blank, endedBy, endedOps, given, givenTo, heldBy, isActive as isActiveOp, made, mostOperations, newOp, noOps, opAt, size}
+use Rattle.ties.specs.Operations.{blank, endedAlone, endedBy, endedOne, endedOps, given, givenTo, heldBy, isActive as isActiveOp, made, mostOperations, newOp, noOps, opAt, size}
 use Rattle.ties.specs.declared.Fate.{Fate}
 use Rattle.ties.specs.declared.Fate.the-variants.{Aborted as FateAborted, Committed as FateCommitted}
 use Rattle.ties.specs.declared.Operation.{Operation}
 use Rattle.ties.specs.declared.Ops.{Ops}
-use Rattle.ties.proofs.OpsLaws.{ended-at, given-at, length-ended, length-given, length-made, made-at, made-room}
+use Rattle.ties.proofs.OpsLaws.{ended-at, given-at, length-ended, length-given, length-made, length-one, made-at, made-room, one-at}
 use Rattle.tables.specs.declared.Tables.{Tables}
 use Rattle.judge.specs.Histories.{reached}
 use Rattle.judge.specs.Judge.{changeOf, inactive, judged, lines, stateAfter}
 use Rattle.judge.specs.States.{emptyState, entered, idle, isActive, phaseOf}
-use Rattle.judge.specs.declared.Change.the-variants.{Ends, Gives, Makes}
+use Rattle.judge.specs.declared.Change.the-variants.{Ends, EndsOne, Gives, Makes}
 use Rattle.judge.specs.declared.Event.{Event}
-use Rattle.judge.specs.declared.Event.the-variants.{Abort, Begin, Commit, Delegate, Operation as Invoke}
+use Rattle.judge.specs.declared.Event.the-variants.{Abort, AbortOne, Begin, Commit, CommitOne, Delegate, Operation as Invoke}
 use Rattle.judge.specs.declared.Phase.{Phase}
 use Rattle.judge.specs.declared.Phase.the-variants.{Aborted, Active, Committed}
 use Rattle.judge.specs.declared.State.{State}
@@ -111,6 +111,26 @@ module _ (tables : Tables) (s : State) (h : Lasting s) where
       n : ℕ
       n = size (s .ops)
 
+  -- an operation that ends alone
+  lasting-one : (q : ℕ) (fate : Fate) → isActiveOp fate ≡ false → Lasting (stateAfter (EndsOne q fate) s)
+  unfolding stateAfter endedOne
+  lasting-one q fate gone =
+      record {
+        full = h .full;
+        room = length-one q fate (s .ops) ∙ h .room;
+        few = h .few;
+        past = λ p. rw (one-at q fate (s .ops) p) (bool-cases (eqb p q) (λ b. rw b (alone-past p)) (λ b. rw b (h .past p)));
+        blanks = λ p l. rw (one-at q fate (s .ops) p) (bool-cases (eqb p q) (λ b. rw b (alone-gone p)) (λ b. rw b (h .blanks p l)));
+        active = λ p. rw (one-at q fate (s .ops) p) (bool-cases (eqb p q) (λ b. rw b (λ a. clash a (alone-gone p))) (λ b. rw b (h .active p)));
+      }
+    where
+      alone-past : (p : ℕ) → isActiveOp (endedAlone fate (size (s .ops)) (opAt (s .ops) p) .fate) ≡ false
+          → endedAlone fate (size (s .ops)) (opAt (s .ops) p) .ended ≤ s .ops .count
+      alone-past p = bool-cases (isActiveOp (opAt (s .ops) p .fate)) (λ b. rw b (λ a. omega (arith, size-count s h))) (λ b. rw b (h .past p))
+
+      alone-gone : (p : ℕ) → isActiveOp (endedAlone fate (size (s .ops)) (opAt (s .ops) p) .fate) ≡ false
+      alone-gone p = bool-cases (isActiveOp (opAt (s .ops) p .fate)) (λ b. rw b gone) (λ b. rw b b)
+
   -- a new operation of an active transaction
   lasting-made : (op : Operation) → s .ops .count < mostOperations → isActiveOp (op .fate) ≡ true → code (phaseOf (s .transactions) (op .responsible)) ≡ 1
       → Lasting (stateAfter (Makes op) s)
@@ -177,6 +197,8 @@ lasting-kept tables s (Delegate t r q) h v =
     lasting-given tables s h q r
     (active-is (phaseOf (s .transactions) r)
     (off-not (isActive (phaseOf (s .transactions) r)) (off-or (inactive (s .transactions) t) (inactive (s .transactions) r) (off .1 .1 .0) .1)))
+lasting-kept tables s (CommitOne t q) h v = lasting-one tables s h q FateCommitted refl
+lasting-kept tables s (AbortOne t q) h v = lasting-one tables s h q FateAborted refl
 
 all-blank : (q : ℕ) → opAt noOps q ≡ blank
 all-blank q =

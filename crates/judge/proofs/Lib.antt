@@ -6,5 +6,6 @@ pub mod RunLaws
 pub mod Invariants
 pub mod Endings
 pub mod Responsible
+pub mod Singles
 pub mod TiesMean
 pub mod PromisesHold

@@ -23,6 +23,7 @@ use Rattle.judge.proofs.Invariants.{lasting}
 use Rattle.judge.proofs.PhaseLaws.{code, of-active}
 use Rattle.judge.proofs.Responsible.{responsible-told}
 use Rattle.judge.proofs.RunLaws.{next-ok, one-event}
+use Rattle.judge.proofs.Singles.{ended-alone}
 use Rattle.judge.proofs.TiesMean.{ties-mean}
 
 ends-with : (s : State) (t : ℕ) (phase : Phase) (fate : Fate) → EndsWith s (stateAfter (Ends t phase fate) s) t fate
@@ -45,4 +46,4 @@ any-run tables es =
     is-active p e = rw (of-active p e)
 
 pub judge-promises : JudgePromises
-judge-promises = record { one-event = one-event; any-run = any-run }
+judge-promises = record { one-event = one-event; ended-alone = ended-alone; any-run = any-run }

@@ -4,16 +4,24 @@ use native.Mathlib.Omega.{arith}
 use mathlib.Core.Path.{_≡_, sym, ap, _∙_}
 use mathlib.Core.Bool.{Bool, false, not, _&&_, _||_, and-true}
 use mathlib.Core.Logic.{_≢_}
-use mathlib.Core.List.{List}
+use mathlib.Core.List.{List, _++_}
 use lib.Dec.{ltb}
 use borrow.Author.Tests.{ltb-true, le-leb, lt-leb, eq-eqb, ne-eqb}
+use Rattle.laws.specs.Lines.{Line}
+use Rattle.laws.proofs.LineLaws.{first-off, first-stays, off-past}
 use Rattle.laws.proofs.Bools.{off-not, off-or}
 use Rattle.terms.specs.Limits.{mostObjects}
 use Rattle.ties.specs.Operations.{size}
 use Rattle.ties.specs.declared.Ops.{Ops}
 use Rattle.tables.specs.declared.Dependency.{Dependency}
 use Rattle.tables.specs.declared.Tables.{Tables}
-use Rattle.judge.specs.Judge.{unknown, unknownObject}
+use Rattle.terms.specs.declared.Refusal.{Refusal}
+use Rattle.terms.specs.declared.Verdict.{Verdict}
+use Rattle.terms.specs.declared.Verdict.the-variants.{Accepted, Refused}
+use Rattle.judge.specs.Judge.{unknown, unknownObject, verdictBy, changeBy, ruledBy}
+use Rattle.judge.specs.declared.Change.{Change}
+use Rattle.judge.specs.declared.Change.the-variants.{Nothing}
+use Rattle.judge.proofs.RunLaws.{not-accepted}
 use Rattle.judge.specs.Rules.{barredBy, kindBars, stepBegins}
 use Rattle.judge.specs.States.{isActive, isCommitted, phaseOf}
 use Rattle.judge.specs.declared.Phase.{Phase}
@@ -49,10 +57,25 @@ object-small tables t o off =
     let l = ltb-true o n (off-not (ltb o n) (off-or (unknown tables t) (unknownObject tables o) off .1)) in
     omega arith
 
+-- an operation to commit or abort alone was accepted
+pub single-known : (tables : Tables) (ops : Ops) (t q : ℕ) → (unknown tables t || not (ltb q (size ops))) ≡ false → q < size ops
+single-known tables ops t q off = ltb-true q (size ops) (off-not (ltb q (size ops)) (off-or (unknown tables t) (not (ltb q (size ops))) off .1))
+
 -- an operation to delegate was accepted
 pub operation-known : (tables : Tables) (ops : Ops) (t r q : ℕ)
     → (unknown tables t || (unknown tables r || not (ltb q (size ops)))) ≡ false → q < size ops
 operation-known tables ops t r q off =
-    let late = not (ltb q (size ops)) in
-    let rest = off-or (unknown tables t) (unknown tables r || late) off .1 in
-    ltb-true q (size ops) (off-not (ltb q (size ops)) (off-or (unknown tables r) late rest .1))
+    single-known tables ops r q (off-or (unknown tables t) (unknown tables r || not (ltb q (size ops))) off .1)
+
+-- ---- lines that several events share, and an event's own after them; v is the answer of those that are shared
+
+module _ (shared own : List (Line Refusal)) (change : Change) {v : Verdict} (told : v ≡ verdictBy shared) where
+  pub shared-refused : (r : Refusal) → v ≡ Refused r → record { verdict = v; change = Nothing } ≡ ruledBy (shared ++ own) change
+  shared-refused r e =
+      let stays : verdictBy (shared ++ own) ≡ Refused r = first-stays Refused Accepted not-accepted r shared own (sym told ∙ e) in
+      ap (λ (x : Verdict). record { verdict = x; change = Nothing }) e ∙ sym (ap (λ (x : Verdict). record { verdict = x; change = changeBy x change }) stays)
+
+  pub shared-passed : v ≡ Accepted → ruledBy (shared ++ own) change ≡ ruledBy own change
+  shared-passed e =
+      ap (λ (x : Verdict). record { verdict = x; change = changeBy x change })
+      (off-past Refused Accepted shared own (first-off Refused Accepted not-accepted shared (sym told ∙ e)))

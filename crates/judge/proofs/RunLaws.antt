@@ -15,7 +15,7 @@ use Rattle.judge.specs.Promises.{OneEvent}
 use Rattle.judge.specs.declared.Event.{Event}
 use Rattle.judge.specs.declared.State.{State}
 
-not-accepted : (r : Refusal) → Refused r ≡ Accepted → ⊥
+pub not-accepted : (r : Refusal) → Refused r ≡ Accepted → ⊥
 not-accepted r e = let z : _≡_ {A = ℕ} 0 1 = cc in omega arith
 
 same-refusal : (r q : Refusal) → Refused r ≡ Refused q → r ≡ q

@@ -11,20 +11,20 @@ use Rattle.laws.proofs.Bools.{bool-cases, clash, on-and}
 use Rattle.terms.specs.declared.Refusal.{Refusal}
 use Rattle.terms.specs.declared.Verdict.the-variants.{Accepted, Refused}
 use Rattle.sets.specs.Reach.{at}
-use Rattle.ties.specs.Operations.{endedOps, given, heldBy, isActive as isActiveOp, made, mostOperations, newOp, opAt, size}
+use Rattle.ties.specs.Operations.{endedOne, endedOps, given, heldBy, isActive as isActiveOp, made, mostOperations, newOp, opAt, size}
 use Rattle.ties.specs.Ties.{conflict, tied, tiedTo, wasActive}
 use Rattle.ties.specs.declared.Fate.{Fate}
 use Rattle.ties.specs.declared.Fate.the-variants.{Aborted as FateAborted, Committed as FateCommitted}
 use Rattle.ties.specs.declared.Mark.{Mark}
 use Rattle.ties.specs.declared.Operation.{Operation}
 use Rattle.ties.specs.declared.Ops.{Ops}
-use Rattle.ties.proofs.OpsLaws.{ended-at, given-at, made-at, made-room}
+use Rattle.ties.proofs.OpsLaws.{ended-at, given-at, made-at, made-room, one-at}
 use Rattle.tables.specs.declared.Tables.{Tables}
 use Rattle.judge.specs.Histories.{makes, reached, run, whenMade}
 use Rattle.judge.specs.Judge.{changeOf, judged, stateAfter}
 use Rattle.judge.specs.States.{emptyState}
 use Rattle.judge.specs.declared.Event.{Event}
-use Rattle.judge.specs.declared.Event.the-variants.{Abort, Begin, Commit, Delegate, Operation as Invoke}
+use Rattle.judge.specs.declared.Event.the-variants.{Abort, AbortOne, Begin, Commit, CommitOne, Delegate, Operation as Invoke}
 use Rattle.judge.specs.declared.State.{State}
 use Rattle.judge.proofs.Invariants.{Lasting, lasting, lasting-kept, lasting-start, size-count}
 use Rattle.judge.proofs.RunLaws.{by-verdict, lines-off, next-no, next-ok, run-no, run-none, run-ok}
@@ -44,6 +44,16 @@ module _ (tables : Tables) (s : State) (h : Lasting s) (p q : ℕ) (made-already
       (λ b. rw (b, gone, lt-ltb q (size (s .ops)) (omega (arith, size-count s h)), on-and (isActiveOp (opAt (s .ops) p .fate)) (eqb (opAt (s .ops) p .responsible) t) b .0))
       (λ b. rw b))
 
+  was-one : (k : ℕ) (fate : Fate) → isActiveOp fate ≡ false → wasActive (opAt (endedOne k fate (s .ops)) p) q ≡ wasActive (opAt (s .ops) p) q
+  was-one k fate gone =
+      rw (one-at k fate (s .ops) p)
+      (bool-cases (eqb p k)
+      (λ b. rw b
+      (bool-cases (isActiveOp (opAt (s .ops) p .fate))
+      (λ a. rw (a, gone, lt-ltb q (size (s .ops)) (omega (arith, size-count s h))))
+      (λ a. rw a (rw a))))
+      (λ b. rw b))
+
   was-kept : (e : Event) → judged tables s e .verdict ≡ Accepted → wasActive (opAt (stateAfter (changeOf e) s .ops) p) q ≡ wasActive (opAt (s .ops) p) q
   unfolding stateAfter
   was-kept (Begin t) v = refl
@@ -57,16 +67,20 @@ module _ (tables : Tables) (s : State) (h : Lasting s) (p q : ℕ) (made-already
       (bool-cases (eqb p k)
       (λ b. rw b (bool-cases (isActiveOp (opAt (s .ops) p .fate)) (λ a. rw a (rw a)) (λ a. rw a (rw a))))
       (λ b. rw b))
+  was-kept (CommitOne t k) v = was-one k FateCommitted refl
+  was-kept (AbortOne t k) v = was-one k FateAborted refl
 
 -- no accepted event lowers the count
 count-up : (tables : Tables) (s : State) (e : Event) → judged tables s e .verdict ≡ Accepted → s .ops .count ≤ stateAfter (changeOf e) s .ops .count
-unfolding stateAfter endedOps given
+unfolding stateAfter endedOne endedOps given
 count-up tables s (Begin t) v = omega arith
 count-up tables s (Commit t) v = omega arith
 count-up tables s (Abort t) v = omega arith
 count-up tables s (Invoke t o m) v =
     omega (arith, ap (λ (x : Ops). x .count) (made-room (newOp t o m) (s .ops) (leb-false mostOperations (s .ops .count) (lines-off tables s (Invoke t o m) v .1 .1 .1 .1 .0))))
 count-up tables s (Delegate t r k) v = omega arith
+count-up tables s (CommitOne t k) v = omega arith
+count-up tables s (AbortOne t k) v = omega arith
 
 was-run : (tables : Tables) (p q : ℕ) → p < q → (es : List Event) (s : State) → Lasting s → q < s .ops .count
     → wasActive (opAt (run tables s es .ops) p) q ≡ wasActive (opAt (s .ops) p) q
@@ -98,7 +112,7 @@ count-made t o m s low = ap (λ (x : Ops). x .count) (made-room (newOp t o m) (s
 -- an event that does not make q leaves it to be made later
 still-due : (tables : Tables) (s : State) → Lasting s → (e : Event) → judged tables s e .verdict ≡ Accepted → (q : ℕ) → s .ops .count ≤ q → makes q s e ≡ false
     → stateAfter (changeOf e) s .ops .count ≤ q
-unfolding stateAfter endedOps given
+unfolding stateAfter endedOne endedOps given
 still-due tables s h (Begin t) v q l n = l
 still-due tables s h (Commit t) v q l n = l
 still-due tables s h (Abort t) v q l n = l
@@ -110,6 +124,8 @@ still-due tables s h (Invoke t o m) v q l n =
       ap (λ (x : Ops). x .count) (made-room (newOp t o m) (s .ops) (leb-false mostOperations (s .ops .count) (lines-off tables s (Invoke t o m) v .1 .1 .1 .1 .0))),
     )
 still-due tables s h (Delegate t r k) v q l n = l
+still-due tables s h (CommitOne t k) v q l n = l
+still-due tables s h (AbortOne t k) v q l n = l
 
 -- the state in which q was accepted, one event at a time
 module _ (tables : Tables) (s : State) (e : Event) (es : List Event) (q : ℕ) where
@@ -137,6 +153,8 @@ module _ (tables : Tables) (p q : ℕ) (earlier : p < q) where
   means-now s h (Commit t) v n es = clash n refl
   means-now s h (Abort t) v n es = clash n refl
   means-now s h (Delegate t r k) v n es = clash n refl
+  means-now s h (CommitOne t k) v n es = clash n refl
+  means-now s h (AbortOne t k) v n es = clash n refl
   means-now s h (Invoke t o m) v n es =
       let low = leb-false mostOperations (s .ops .count) (lines-off tables s (Invoke t o m) v .1 .1 .1 .1 .0) in
       let is : s .ops .count ≡ q = sym (size-count s h) ∙ eqb-true (size (s .ops)) q n in

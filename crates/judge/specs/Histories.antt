@@ -9,7 +9,7 @@ use Rattle.ties.specs.Operations.{size}
 use Rattle.tables.specs.declared.Tables.{Tables}
 use Rattle.judge.specs.declared.State.{State}
 use Rattle.judge.specs.declared.Event.{Event}
-use Rattle.judge.specs.declared.Event.the-variants.{Begin, Commit, Abort, Operation as Invoke, Delegate}
+use Rattle.judge.specs.declared.Event.the-variants.{Begin, Commit, Abort, Operation as Invoke, Delegate, CommitOne, AbortOne}
 use Rattle.judge.specs.States.{emptyState}
 use Rattle.judge.specs.Judge.{judged}
 
@@ -48,8 +48,10 @@ invokerIn (Begin t ∷ es) q = invokerIn es q
 invokerIn (Commit t ∷ es) q = invokerIn es q
 invokerIn (Abort t ∷ es) q = invokerIn es q
 invokerIn (Delegate t r p ∷ es) q = invokerIn es q
+invokerIn (CommitOne t p ∷ es) q = invokerIn es q
+invokerIn (AbortOne t p ∷ es) q = invokerIn es q
 
--- the last receiver, `else` if it was never delegated
+-- the last receiver, `else` if it was never delegated; once the operation has ended alone, delegating it changes nothing
 unfoldable pub receiverIn : List Event → ℕ → ℕ → ℕ
 receiverIn [] q else = else
 receiverIn (Delegate t r p ∷ es) q else = receiverIn es q (cond (eqb p q) r else)
@@ -57,6 +59,8 @@ receiverIn (Begin t ∷ es) q else = receiverIn es q else
 receiverIn (Commit t ∷ es) q else = receiverIn es q else
 receiverIn (Abort t ∷ es) q else = receiverIn es q else
 receiverIn (Invoke t o m ∷ es) q else = receiverIn es q else
+receiverIn (CommitOne t p ∷ es) q else = cond (eqb p q) else (receiverIn es q else)
+receiverIn (AbortOne t p ∷ es) q else = cond (eqb p q) else (receiverIn es q else)
 
 -- "An operation's responsible transaction is its invoker until it is delegated, then the last receiver."
 abbrev pub responsibleIn : List Event → ℕ → ℕ
@@ -69,6 +73,8 @@ makes q s (Commit t) = false
 makes q s (Abort t) = false
 makes q s (Invoke t o m) = eqb (size (s .ops)) q
 makes q s (Delegate t r p) = false
+makes q s (CommitOne t p) = false
+makes q s (AbortOne t p) = false
 
 -- the state in which operation q was accepted
 unfoldable pub whenMade : Tables → State → List Event → ℕ → State

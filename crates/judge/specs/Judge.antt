@@ -2,7 +2,7 @@
 -- line that holds; what an accepted event changes; the state after it.
 use Prim.Native.Nat.{ℕ, min}
 use mathlib.Core.Bool.{Bool, true, false, not, _&&_, _||_}
-use mathlib.Core.List.{List, [], _∷_}
+use mathlib.Core.List.{List, [], _∷_, _++_}
 use lib.Dec.{ltb, leb, eqb}
 use Rattle.laws.specs.Lines.{Line, line, firstLine}
 use Rattle.terms.specs.Limits.{mostObjects}
@@ -19,24 +19,25 @@ use Rattle.terms.specs.declared.Refusal.the-variants.{
   OnRing,
   MustWait,
   Full,
+  AlreadyEnded,
 }
 use Rattle.terms.specs.declared.Verdict.{Verdict}
 use Rattle.terms.specs.declared.Verdict.the-variants.{Accepted, Refused}
-use Rattle.ties.specs.Operations.{mostOperations, opAt, size, newOp, made, given, endedOps}
-use Rattle.ties.specs.Ties.{onRing, dirty, mustWait}
+use Rattle.ties.specs.Operations.{mostOperations, isActive as isActiveOperation, opAt, size, newOp, made, given, endedOne, endedOps}
+use Rattle.ties.specs.Ties.{onRing, dirtyAt, dirty, mustWait}
 use Rattle.ties.specs.declared.Mark.{Mark}
 use Rattle.ties.specs.declared.Fate.the-variants.{Committed as FateCommitted, Aborted as FateAborted}
 use Rattle.ties.specs.declared.Ops.{Ops}
-use Rattle.tables.specs.Sorts.{sortOf, isKnown, isSaga, isUndo}
+use Rattle.tables.specs.Sorts.{sortOf, isKnown, isSaga, isUndo, isPlain}
 use Rattle.tables.specs.declared.Sort.{Sort}
 use Rattle.tables.specs.declared.Tables.{Tables}
 use Rattle.judge.specs.declared.Phase.the-variants.{Active, Committed, Aborted}
 use Rattle.judge.specs.declared.Transaction.{Transaction}
 use Rattle.judge.specs.declared.State.{State}
 use Rattle.judge.specs.declared.Event.{Event}
-use Rattle.judge.specs.declared.Event.the-variants.{Begin, Commit, Abort, Operation as Invoke, Delegate}
+use Rattle.judge.specs.declared.Event.the-variants.{Begin, Commit, Abort, Operation as Invoke, Delegate, CommitOne, AbortOne}
 use Rattle.judge.specs.declared.Change.{Change}
-use Rattle.judge.specs.declared.Change.the-variants.{Nothing, Enters, Ends, Makes, Gives}
+use Rattle.judge.specs.declared.Change.the-variants.{Nothing, Enters, Ends, EndsOne, Makes, Gives}
 use Rattle.judge.specs.declared.Ruling.{Ruling}
 use Rattle.judge.specs.declared.Judged.{Judged}
 use Rattle.judge.specs.States.{isIdle, isActive, phaseOf, entered}
@@ -106,12 +107,28 @@ delegateLines tables ts ops t r q =
     ∷ line NotResponsible (not (eqb (opAt ops q .responsible) t))
     ∷ []
 
+-- the commit and the abort of one operation, "for plain transactions only": what both have to pass
+abbrev pub singleLines : Tables → List Transaction → Ops → ℕ → ℕ → List (Line Refusal)
+singleLines tables ts ops t q =
+    line NotInTables (unknown tables t || not (ltb q (size ops)))
+    ∷ line NeverDoes (not (isPlain (sortOf tables t)))
+    ∷ line NotActive (inactive ts t)
+    ∷ line NotResponsible (not (eqb (opAt ops q .responsible) t))
+    ∷ line AlreadyEnded (not (isActiveOperation (opAt ops q .fate)))
+    ∷ []
+
+-- "A single commit must pass the dirty-read rule for that operation and the ring rule for its transaction."
+abbrev pub commitOneLines : Tables → List Transaction → Ops → ℕ → ℕ → List (Line Refusal)
+commitOneLines tables ts ops t q = singleLines tables ts ops t q ++ (line DirtyRead (dirtyAt ops t q) ∷ line OnRing (onRing ops t) ∷ [])
+
 abbrev pub lines : Tables → State → Event → List (Line Refusal)
 lines tables s (Begin t) = beginLines tables (s .transactions) t
 lines tables s (Commit t) = commitLines tables (s .transactions) (s .ops) t
 lines tables s (Abort t) = abortLines tables (s .transactions) t
 lines tables s (Invoke t o m) = operationLines tables (s .transactions) (s .ops) t o m
 lines tables s (Delegate t r q) = delegateLines tables (s .transactions) (s .ops) t r q
+lines tables s (CommitOne t q) = commitOneLines tables (s .transactions) (s .ops) t q
+lines tables s (AbortOne t q) = singleLines tables (s .transactions) (s .ops) t q
 
 -- the first line that holds
 abbrev pub verdictBy : List (Line Refusal) → Verdict
@@ -125,6 +142,8 @@ changeOf (Commit t) = Ends t Committed FateCommitted
 changeOf (Abort t) = Ends t Aborted FateAborted
 changeOf (Invoke t o m) = Makes (newOp t o m)
 changeOf (Delegate t r q) = Gives q r
+changeOf (CommitOne t q) = EndsOne q FateCommitted
+changeOf (AbortOne t q) = EndsOne q FateAborted
 
 -- a refused event changes nothing
 abbrev pub changeBy : Verdict → Change → Change
@@ -146,6 +165,7 @@ abbrev pub transactionsAfter : Change → List Transaction → List Transaction
 transactionsAfter Nothing ts = ts
 transactionsAfter (Enters t p) ts = entered p t ts
 transactionsAfter (Ends t p fate) ts = entered p t ts
+transactionsAfter (EndsOne q fate) ts = ts
 transactionsAfter (Makes op) ts = ts
 transactionsAfter (Gives q r) ts = ts
 
@@ -153,6 +173,7 @@ abbrev pub opsAfter : Change → Ops → Ops
 opsAfter Nothing ops = ops
 opsAfter (Enters t p) ops = ops
 opsAfter (Ends t p fate) ops = endedOps t fate ops
+opsAfter (EndsOne q fate) ops = endedOne q fate ops
 opsAfter (Makes op) ops = made op ops
 opsAfter (Gives q r) ops = given q r ops
 

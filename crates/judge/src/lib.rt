@@ -18,8 +18,8 @@ ghost use Rattle.ties.specs.Ties.{mustWait};
 ghost use Rattle.tables.specs.Sorts.{isUndo};
 ghost use Rattle.judge.specs.States.{isIdle, isActive, isCommitted, isAborted, emptyState, phaseOf, own, entered};
 ghost use Rattle.judge.specs.Rules.{stepBegins, undoBegins, beginBarred, commitBarred, abortBarred, commitBars, beginBars, kindBars, declaredBars};
-ghost use Rattle.judge.specs.Judge.{beginLines, commitLines, abortLines, operationLines, delegateLines, noParty, changeOf, ruledBy, refusedBy, rulingOf, stateAfter, judged};
-ghost use Rattle.judge.specs.declared.Event.the-variants.{Begin, Commit, Abort, Operation as Invoke, Delegate};
+ghost use Rattle.judge.specs.Judge.{beginLines, commitLines, abortLines, operationLines, delegateLines, singleLines, commitOneLines, verdictBy, noParty, changeOf, ruledBy, refusedBy, rulingOf, stateAfter, judged};
+ghost use Rattle.judge.specs.declared.Event.the-variants.{Begin, Commit, Abort, Operation as Invoke, Delegate, CommitOne, AbortOne};
 
 // How a transaction stands.
 pub enum Phase {
@@ -46,13 +46,17 @@ pub enum Event {
     Abort(usize),
     Operation(usize, usize, Mark),
     Delegate(usize, usize, usize),
+    CommitOne(usize, usize),
+    AbortOne(usize, usize),
 }
 
-// What an accepted event changes: a transaction enters a phase; or ends, and its operations with it; an operation is made; or given.
+// What an accepted event changes: a transaction enters a phase; or ends, and its operations with it; an operation ends alone; is made;
+// or given.
 pub enum Change {
     Nothing,
     Enters(usize, Phase),
     Ends(usize, Phase, Fate),
+    EndsOne(usize, Fate),
     Makes(Operation),
     Gives(usize, u16),
 }
@@ -492,6 +496,90 @@ fn delegate(
     }
 }
 
+// What the commit and the abort of one operation both have to pass: a plain and active transaction, and an active operation of its own.
+fn single(
+    tables: Tables,
+    transactions: [Transaction; Book::TRANSACTIONS],
+    ops: Ops,
+    t: usize,
+    q: usize,
+) -> Verdict
+    ensures { λ r. ⌜ r ≡ verdictBy (singleLines tables transactions ops t q) ⌝ }
+{
+    let n = ops.size();
+    let sort = tables::sort_of(tables, t);
+    if !sort.is_known() | !(q < n) {
+        return Verdict::Refused(Refusal::NotInTables);
+    }
+    if !sort.is_plain() {
+        return Verdict::Refused(Refusal::NeverDoes);
+    }
+    let phase = phase_of(transactions, t);
+    if !phase.is_active() {
+        return Verdict::Refused(Refusal::NotActive);
+    }
+    let op = ops.all[q];
+    let holder = op.responsible as usize;
+    if holder != t {
+        return Verdict::Refused(Refusal::NotResponsible);
+    }
+    let fate = op.fate;
+    if !fate.is_active() {
+        return Verdict::Refused(Refusal::AlreadyEnded);
+    }
+    Verdict::Accepted
+}
+
+fn commit_one(
+    tables: Tables,
+    transactions: [Transaction; Book::TRANSACTIONS],
+    ops: Ops,
+    t: usize,
+    q: usize,
+) -> Ruling
+    ensures { λ r. ⌜ r ≡ ruledBy (commitOneLines tables transactions ops t q) (changeOf (CommitOne t q)) ⌝ }
+{
+    let allowed = single(tables, transactions, ops, t, q);
+    let Verdict::Accepted = allowed else {
+        return Ruling {
+            verdict: allowed,
+            change: Change::Nothing,
+        };
+    };
+    if ops.dirty_one(t, q) {
+        return refused(Refusal::DirtyRead);
+    }
+    if ops.on_ring(t) {
+        return refused(Refusal::OnRing);
+    }
+    Ruling {
+        verdict: Verdict::Accepted,
+        change: Change::EndsOne(q, Fate::Committed),
+    }
+}
+
+fn abort_one(
+    tables: Tables,
+    transactions: [Transaction; Book::TRANSACTIONS],
+    ops: Ops,
+    t: usize,
+    q: usize,
+) -> Ruling
+    ensures { λ r. ⌜ r ≡ ruledBy (singleLines tables transactions ops t q) (changeOf (AbortOne t q)) ⌝ }
+{
+    let allowed = single(tables, transactions, ops, t, q);
+    let Verdict::Accepted = allowed else {
+        return Ruling {
+            verdict: allowed,
+            change: Change::Nothing,
+        };
+    };
+    Ruling {
+        verdict: Verdict::Accepted,
+        change: Change::EndsOne(q, Fate::Aborted),
+    }
+}
+
 // The verdict on an event and what it changes, for a caller that keeps its own state.
 pub fn rule(tables: Tables, state: State, event: Event) -> Ruling
     ensures { λ r. ⌜ r ≡ rulingOf tables state event ⌝ }
@@ -504,6 +592,8 @@ pub fn rule(tables: Tables, state: State, event: Event) -> Ruling
         Event::Abort(t) => abort(tables, transactions, t),
         Event::Operation(t, object, mark) => operation(tables, transactions, ops, t, object, mark),
         Event::Delegate(t, receiver, q) => delegate(tables, transactions, ops, t, receiver, q),
+        Event::CommitOne(t, q) => commit_one(tables, transactions, ops, t, q),
+        Event::AbortOne(t, q) => abort_one(tables, transactions, ops, t, q),
     }
 }
 
@@ -538,6 +628,13 @@ impl State {
                 let rest = ops.ended(t, fate);
                 State {
                     transactions: next,
+                    ops: rest,
+                }
+            }
+            Change::EndsOne(q, fate) => {
+                let rest = ops.ended_one(q, fate);
+                State {
+                    transactions,
                     ops: rest,
                 }
             }

@@ -10,18 +10,26 @@ module _ {R A : Type 0} (given : R → A) (otherwise : A) where
   off-first [] h = refl
   off-first (l ∷ ls) h = rw (h .0) (off-first ls (h .1))
 
+  -- lines of which none holds leave it to those after them
+  pub off-past : (xs ys : List (Line R)) → Off xs → firstLine given otherwise (xs ++ ys) ≡ firstLine given otherwise ys
+  off-past [] ys h = refl
+  off-past (x ∷ xs) ys h = rw (h .0) (off-past xs ys (h .1))
+
   pub is-first : (r : R) (ls : List (Line R)) → FirstIs r ls → firstLine given otherwise ls ≡ given r
-  is-first r ls f = ap (firstLine given otherwise) (f .split) ∙ past (f .earlier) (f .none-before) ∙ rw (f .holds) (ap given (f .refuses))
-    where
-      past : (xs : List (Line R)) → Off xs → firstLine given otherwise (xs ++ (f .this ∷ f .later)) ≡ firstLine given otherwise (f .this ∷ f .later)
-      past [] h = refl
-      past (x ∷ xs) h = rw (h .0) (past xs (h .1))
+  is-first r ls f =
+      ap (firstLine given otherwise) (f .split) ∙ off-past (f .earlier) (f .this ∷ f .later) (f .none-before) ∙ rw (f .holds) (ap given (f .refuses))
 
   module _ (apart : (r : R) → given r ≡ otherwise → ⊥) where
     pub first-off : (ls : List (Line R)) → firstLine given otherwise ls ≡ otherwise → Off ls
     first-off [] e = tt
     first-off (l ∷ ls) e =
         bool-cases (l .holds) (λ t. absurd (apart (l .refusal) (rw t at e))) (λ t. (t, first-off ls (rw t at e)))
+
+    -- a refusal among the first lines is given whatever lines follow
+    pub first-stays : (r : R) (xs ys : List (Line R)) → firstLine given otherwise xs ≡ given r → firstLine given otherwise (xs ++ ys) ≡ given r
+    first-stays r [] ys e = absurd (apart r (sym e))
+    first-stays r (x ∷ xs) ys e =
+        bool-cases (x .holds) (λ t. rw t (rw t at e)) (λ t. rw t (first-stays r xs ys (rw t at e)))
 
     module _ (same : (r q : R) → given r ≡ given q → r ≡ q) where
       pub first-is : (r : R) (ls : List (Line R)) → firstLine given otherwise ls ≡ given r → FirstIs r ls

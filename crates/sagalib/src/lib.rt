@@ -7,25 +7,13 @@ use book::Outcome;
 use closing::NextStep;
 use listing::Placed;
 use terms::Refusal;
-use terms::Verdict;
 ghost use mathlib.Core.Path.{_≡_};
 ghost use lib.ListN.{length};
-ghost use Rattle.terms.specs.Refusals.{verdictNumber};
 ghost use Rattle.number.specs.Number.{ceiling1};
 ghost use Rattle.book.specs.Reading.{openingOf};
 ghost use Rattle.book.specs.Packing.{unpackedRoom, writtenRoom};
 ghost use Rattle.listing.specs.Lines.{lineCount, placeRoom};
 ghost use Rattle.sagalib.specs.Numbers.{reading, readNumbers, outcomeNumbers, unpackNumbers, writeNumbers, lineOutcome, lineNumbers, stepNumbers, nextNumbers};
-
-// The number of the refusal, 0 for accepted.
-fn verdict_number(verdict: Verdict) -> u64
-    ensures { λ r. ⌜ r ≡ verdictNumber verdict ⌝ }
-{
-    match verdict {
-        Verdict::Accepted => 0,
-        Verdict::Refused(refusal) => refusal.number() as u64,
-    }
-}
 
 // The answer after writing for a book of so many accepted events; a refusal says by itself how many it came after.
 fn outcome_numbers(events: usize, outcome: Outcome) -> [u64; 4]
@@ -70,7 +58,7 @@ pub extern "C" fn saga_read(book: &[u8], answer: &mut [u64; 4])
 {
     let read = book::read(book);
     let verdict = read.answer;
-    let number = verdict_number(verdict);
+    let number = verdict.number() as u64;
     let events = read.events as u64;
     let place = read.place as u64;
     let opening = read.opening as u64;

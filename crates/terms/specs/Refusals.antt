@@ -21,6 +21,7 @@ use Rattle.terms.specs.declared.Refusal.the-variants.{
   MustWait,
   Full,
   NoRoom,
+  AlreadyEnded,
 }
 use Rattle.terms.specs.declared.Verdict.{Verdict}
 use Rattle.terms.specs.declared.Verdict.the-variants.{Accepted, Refused}
@@ -46,9 +47,9 @@ numberOf NotInTables = 8
 numberOf NeverDoes = 9
 -- begin of one that isn't idle
 numberOf NotIdle = 10
--- commit, abort, operation or delegation by one not active, or receiver not active
+-- commit, abort, operation, delegation, or commit or abort of one operation by one not active, or receiver not active
 numberOf NotActive = 11
--- delegator not responsible
+-- delegator, or who commits or aborts one operation, not responsible
 numberOf NotResponsible = 12
 -- saga rule
 numberOf SagaRule = 13
@@ -64,6 +65,8 @@ numberOf MustWait = 17
 numberOf Full = 18
 -- lent room too small
 numberOf NoRoom = 19
+-- operation already ended
+numberOf AlreadyEnded = 20
 
 -- a verdict as a number: 0 for accepted
 abbrev pub verdictNumber : Verdict → ℕ

@@ -1,7 +1,7 @@
 // The words of the rules that every crate uses: what a book and a saga are limited to, why something is refused, and what a verdict is.
 ghost use mathlib.Core.Path.{_≡_};
 ghost use Rattle.terms.specs.Limits.{limits};
-ghost use Rattle.terms.specs.Refusals.{numberOf};
+ghost use Rattle.terms.specs.Refusals.{numberOf, verdictNumber};
 
 // A book: the bytes in which a service keeps its tables and its events. Its limits are these.
 pub struct Book;
@@ -79,6 +79,7 @@ pub enum Refusal {
     MustWait,
     Full,
     NoRoom,
+    AlreadyEnded,
 }
 
 impl Refusal {
@@ -106,6 +107,7 @@ impl Refusal {
             Refusal::MustWait => 17,
             Refusal::Full => 18,
             Refusal::NoRoom => 19,
+            Refusal::AlreadyEnded => 20,
         }
     }
 }
@@ -114,4 +116,16 @@ impl Refusal {
 pub enum Verdict {
     Accepted,
     Refused(Refusal),
+}
+
+impl Verdict {
+    // The number of its refusal, 0 for accepted.
+    pub fn number(self) -> u8
+        ensures { λ r. ⌜ r ≡ verdictNumber self ⌝ }
+    {
+        match self {
+            Verdict::Accepted => 0,
+            Verdict::Refused(refusal) => refusal.number(),
+        }
+    }
 }

@@ -3,7 +3,8 @@ use Prim.Native.Nat.{ℕ, zero, suc, _+_, _≤_, _<_}
 use native.Mathlib.Numerals.{add-one}
 use native.Mathlib.Omega.{arith}
 use mathlib.Core.Path.{_≡_, refl, sym, ap, ap₂, _∙_}
-use mathlib.Core.Bool.{Bool, true, false, cond, _&&_}
+use mathlib.Core.Bool.{Bool, true, false, cond, _&&_, and-true, and-false}
+use mathlib.Core.Logic.{_≢_}
 use mathlib.Core.List.{List}
 use lib.Dec.{ltb, eqb}
 use lib.ListN.{length, getD, set, length-set, List·getD-eq-default}
@@ -13,7 +14,7 @@ use Rattle.laws.proofs.Decisions.{same-or, lt-or}
 use Rattle.ties.specs.declared.Fate.{Fate}
 use Rattle.ties.specs.declared.Operation.{Operation}
 use Rattle.ties.specs.declared.Ops.{Ops}
-use Rattle.ties.specs.Operations.{mostOperations, isActive, blank, opAt, size, made, givenTo, given, heldBy, endedAs, endedBy, changed, endedOps}
+use Rattle.ties.specs.Operations.{mostOperations, isActive, blank, opAt, size, made, givenTo, given, endedAs, endedAlone, endedOne, endedBy, changed, endedOps}
 
 -- what stands at p after a store at q
 stored-at : (l : List Operation) (q : ℕ) (op : Operation) → q < length l → (p : ℕ) → getD (set l q op) p blank ≡ cond (eqb p q) op (getD l p blank)
@@ -81,16 +82,33 @@ given-past q receiver ops h = λ i. record { all = sym (set-out (ops .all) q (gi
 
 -- ---- ending
 
--- the change of one operation, by the test that the code made
-module _ (t : ℕ) (fate : Fate) (accepted : ℕ) (op : Operation) {b : Bool} (o : b ≡ isActive (op .fate)) where
-  held : {v : Bool} → (b && eqb (op .responsible) t) ≡ v → heldBy t op ≡ v
-  held h = ap (λ (x : Bool). x && eqb (op .responsible) t) (sym o) ∙ h
+-- t's own ends as it would alone, another's stays
+module _ (t : ℕ) (fate : Fate) (accepted : ℕ) (op : Operation) where
+  pub ended-mine : op .responsible ≡ t → endedAlone fate accepted op ≡ endedBy t fate accepted op
+  ended-mine e = rw (eq-eqb (op .responsible) t e, and-true (isActive (op .fate)))
 
-  pub ended-on : (b && eqb (op .responsible) t) ≡ true → endedAs fate accepted op ≡ endedBy t fate accepted op
-  ended-on h = rw (held h)
+  pub ended-other : op .responsible ≢ t → op ≡ endedBy t fate accepted op
+  ended-other e = rw (ne-eqb (op .responsible) t e, and-false (isActive (op .fate)))
 
-  pub ended-off : (b && eqb (op .responsible) t) ≡ false → op ≡ endedBy t fate accepted op
-  ended-off h = rw (held h)
+-- an operation that ends alone
+
+pub one-at : (q : ℕ) (fate : Fate) (ops : Ops) (p : ℕ)
+    → opAt (endedOne q fate ops) p ≡ cond (eqb p q) (endedAlone fate (size ops) (opAt ops p)) (opAt ops p)
+unfolding endedOne
+one-at q fate ops p = rewritten-at (endedAlone fate (size ops)) refl (ops .all) q p
+
+pub size-one : (q : ℕ) (fate : Fate) (ops : Ops) → size (endedOne q fate ops) ≡ size ops
+unfolding endedOne
+size-one q fate ops = refl
+
+pub length-one : (q : ℕ) (fate : Fate) (ops : Ops) → length (endedOne q fate ops .all) ≡ length (ops .all)
+unfolding endedOne
+length-one q fate ops = length-set (ops .all) q (endedAlone fate (size ops) (opAt ops q))
+
+-- a list that has no place q
+pub one-past : (q : ℕ) (fate : Fate) (ops : Ops) → length (ops .all) ≤ q → ops ≡ endedOne q fate ops
+unfolding endedOne
+one-past q fate ops h = λ i. record { all = sym (set-out (ops .all) q (endedAlone fate (size ops) (opAt ops q)) h) i; count = ops .count }
 
 -- the first n rewritten
 

@@ -1,19 +1,38 @@
--- Ties that count for the order of transactions, and what they say of `before` and `preceded`.
-use Prim.Native.Nat.{ℕ, _<_}
+-- Ties, those that count for the order of transactions, and what they say of `before` and `preceded`; dirty reads.
+use Prim.Native.Nat.{ℕ, _+_, _≤_, _<_}
 use native.Mathlib.Omega.{arith}
-use mathlib.Core.Path.{_≡_, sym}
-use mathlib.Core.Bool.{true, false, _&&_}
+use mathlib.Core.Path.{_≡_, sym, ap, _∙_}
+use mathlib.Core.Bool.{true, false, _&&_, and-false}
+use native.Mathlib.Nat.{zero-add, add-zero}
+use lib.ListN.{length, List·getD-eq-default}
 use lib.Dec.{ltb, eqb}
 use borrow.Author.Tests.{ltb-true, eqb-true, eq-eqb, lt-ltb}
 use Rattle.laws.specs.Index.{anyBelow}
 use Rattle.laws.proofs.Bools.{and-on, on-and, together, is-not, clash}
-use Rattle.laws.proofs.IndexLaws.{any-intro, any-elim}
+use Rattle.laws.proofs.IndexLaws.{any-intro, any-elim, any-same}
 use Rattle.terms.specs.Limits.{mostTransactions}
 use Rattle.sets.specs.Reach.{among}
 use Rattle.ties.specs.declared.Operation.{Operation}
 use Rattle.ties.specs.declared.Ops.{Ops}
-use Rattle.ties.specs.Operations.{opAt, size}
-use Rattle.ties.specs.Ties.{neitherAborted, apart, bothOwned, tiedTo, counts, edge, before, preceded}
+use Rattle.ties.specs.Operations.{blank, opAt, size}
+use Rattle.ties.specs.Ties.{neitherAborted, apart, bothOwned, tiedTo, tied, counts, edge, before, preceded, dirtyAt, dirty}
+
+-- the parts of a tie
+pub record Tie (ops : Ops) (p q : ℕ) : Type 0 where
+  pub accepted : q < size ops
+  pub earlier : p < q
+  pub holds : tiedTo (opAt ops p) (opAt ops q) q ≡ true
+
+pub tie-parts : (ops : Ops) (p q : ℕ) → tied ops p q ≡ true → Tie ops p q
+unfolding tied
+tie-parts ops p q h =
+    let x = on-and (ltb q (size ops)) (ltb p q && tiedTo (opAt ops p) (opAt ops q) q) h in
+    let y = on-and (ltb p q) (tiedTo (opAt ops p) (opAt ops q) q) (x .1) in
+    record { accepted = ltb-true q (size ops) (x .0); earlier = ltb-true p q (y .0); holds = y .1 }
+
+pub tie-made : (ops : Ops) (p q : ℕ) → Tie ops p q → tied ops p q ≡ true
+unfolding tied
+tie-made ops p q w = rw (lt-ltb q (size ops) (w .accepted), lt-ltb p q (w .earlier)) (w .holds)
 
 -- a tie that counts is between transactions
 pub counts-small : (p q : Operation) (j : ℕ) → counts p q j ≡ true → (p .responsible < mostTransactions) × (q .responsible < mostTransactions)
@@ -92,3 +111,22 @@ unpreceded ops t e a = is-not (before ops a t) (λ h. clash (led (before-ties op
         any-intro (size ops) (λ j. eqb (opAt ops j .responsible) t && anyBelow j (λ i. counts (opAt ops i) (opAt ops j) j)) q (w .accepted)
         (and-on (eqb (opAt ops q .responsible) t) (anyBelow q (λ i. counts (opAt ops i) (opAt ops q) q)) (eq-eqb (opAt ops q .responsible) t (w .second))
         (any-intro q (λ i. counts (opAt ops i) (opAt ops q) q) (w .p) (w .earlier) (w .counted)))
+
+-- ---- dirty reads among a stretch of operations: all of them, one, and past the last
+
+module _ (ops : Ops) (t : ℕ) where
+  pub dirty-all : (n : ℕ) → n ≡ size ops → anyBelow n (λ k. dirtyAt ops t (0 + k)) ≡ dirty ops t
+  unfolding dirty
+  dirty-all n e =
+      any-same n (λ k. dirtyAt ops t (0 + k)) (dirtyAt ops t) (λ i l. ap (dirtyAt ops t) (zero-add i))
+      ∙ ap (λ (m : ℕ). anyBelow m (dirtyAt ops t)) e
+
+  pub dirty-single : (q : ℕ) → anyBelow 1 (λ k. dirtyAt ops t (q + k)) ≡ dirtyAt ops t q
+  unfolding anyBelow
+  dirty-single q = ap (dirtyAt ops t) (add-zero q)
+
+  pub dirty-past : (q : ℕ) → length (ops .all) ≤ q → false ≡ dirtyAt ops t q
+  unfolding dirtyAt
+  dirty-past q h =
+      let past : opAt ops q ≡ blank = List·getD-eq-default (ops .all) blank {n = q} h in
+      rw (past, and-false (eqb 0 t))

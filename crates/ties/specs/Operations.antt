@@ -80,6 +80,14 @@ endedAs fate accepted op =
 abbrev pub endedBy : ℕ → Fate → ℕ → Operation → Operation
 endedBy t fate accepted op = cond (heldBy t op) (endedAs fate accepted op) op
 
+-- the operation, ended alone, if it is active
+abbrev pub endedAlone : Fate → ℕ → Operation → Operation
+endedAlone fate accepted op = cond (isActive (op .fate)) (endedAs fate accepted op) op
+
+-- operation q ends alone
+unfoldable pub endedOne : ℕ → Fate → Ops → Ops
+endedOne q fate ops = record { all = set (ops .all) q (endedAlone fate (size ops) (opAt ops q)); count = ops .count }
+
 -- the first n rewritten by f
 unfoldable pub changed : ℕ → (Operation → Operation) → List Operation → List Operation
 changed zero f l = l

@@ -1,13 +1,14 @@
 // Accepted operations, how they end and change hands, and the ties between them.
 use terms::Book;
 ghost use mathlib.Core.Path.{_≡_};
-ghost use Prim.Native.Nat.{ℕ, _<_};
+ghost use Prim.Native.Nat.{ℕ, _+_, _≤_, _<_};
+ghost use Rattle.laws.specs.Index.{anyBelow};
 ghost use mathlib.Core.Bool.{false};
 ghost use lib.ListN.{getD};
 ghost use Rattle.terms.specs.Limits.{mostTransactions};
 ghost use Rattle.sets.specs.Sets.{mem};
-ghost use Rattle.ties.specs.Operations.{isWrite, isAborted, isActive, isCommitted, mostOperations, noOps, size, made, givenTo, given, endedBy, endedOps};
-ghost use Rattle.ties.specs.Ties.{conflict, tiedTo, tied, counts, before, pairsOf, preceded, onRing, readBy, dirties, dirty, waitsFor, mustWait};
+ghost use Rattle.ties.specs.Operations.{isWrite, isAborted, isActive, isCommitted, mostOperations, noOps, size, made, givenTo, given, endedAlone, endedOne, endedBy, endedOps};
+ghost use Rattle.ties.specs.Ties.{conflict, tiedTo, tied, counts, before, pairsOf, preceded, onRing, readBy, dirties, dirtyAt, dirty, waitsFor, mustWait};
 
 // What an operation does to its object.
 pub enum Mark {
@@ -59,14 +60,13 @@ impl Operation {
         self
     }
 
-    // Ended in this fate, where it is active and t is responsible for it.
-    fn ended_by(self, t: usize, fate: Fate, accepted: u16) -> Operation
-        ensures { λ r. ⌜ r ≡ endedBy t fate accepted self ⌝ }
+    // Ended in this fate, where it is active.
+    fn ended_alone(self, fate: Fate, accepted: u16) -> Operation
+        ensures { λ r. ⌜ r ≡ endedAlone fate accepted self ⌝ }
     {
         let mark = self.mark;
         let now = self.fate;
-        let responsible = self.responsible as usize;
-        if now.is_active() & (responsible == t) {
+        if now.is_active() {
             return Operation {
                 object: self.object,
                 mark,
@@ -74,6 +74,17 @@ impl Operation {
                 fate,
                 ended: accepted,
             };
+        }
+        self
+    }
+
+    // The same, where t is responsible for it.
+    fn ended_by(self, t: usize, fate: Fate, accepted: u16) -> Operation
+        ensures { λ r. ⌜ r ≡ endedBy t fate accepted self ⌝ }
+    {
+        let responsible = self.responsible as usize;
+        if responsible == t {
+            return self.ended_alone(fate, accepted);
         }
         self
     }
@@ -244,6 +255,21 @@ impl Ops {
         next
     }
 
+    // Operation q ends alone in this fate, where it is active.
+    pub fn ended_one(self, q: usize, fate: Fate) -> Ops
+        ensures { λ r. ⌜ r ≡ endedOne q fate self ⌝ }
+    {
+        let n = self.size();
+        let accepted = n as u16;
+        let mut next = self;
+        if q < Operation::MOST {
+            let op = self.all[q];
+            let after = op.ended_alone(fate, accepted);
+            next.all[q] = after;
+        }
+        next
+    }
+
     // The active operations that t is responsible for end in this fate, and no others.
     pub fn ended(self, t: usize, fate: Fate) -> Ops
         ensures { λ r. ⌜ r ≡ endedOps t fate self ⌝ }
@@ -341,13 +367,14 @@ impl Ops {
         }
     }
 
-    // Whether a read that t answers for saw a write that is not clean for t.
-    pub fn dirty(self, t: usize) -> bool
-        ensures { λ r. ⌜ r ≡ dirty self t ⌝ }
+    // Whether one of `n` operations, from number `first` on, is a read that t answers for and saw a write that is not clean for t.
+    fn dirty_among(self, t: usize, first: usize, n: usize) -> bool
+        requires { ⌜ first + n ≤ mostOperations ⌝ }
+        ensures { λ r. ⌜ r ≡ anyBelow n (λ k. dirtyAt self t (first + k)) ⌝ }
     {
-        let n = self.size();
-        let mut j: usize = 0;
-        while j < n {
+        let mut k: usize = 0;
+        while k < n {
+            let j = first + k;
             let q = self.all[j];
             if q.read_by(t) {
                 let mut i: usize = 0;
@@ -359,9 +386,27 @@ impl Ops {
                     i += 1;
                 }
             }
-            j += 1;
+            k += 1;
         }
         false
+    }
+
+    // Whether a read that t answers for saw a write that is not clean for t.
+    pub fn dirty(self, t: usize) -> bool
+        ensures { λ r. ⌜ r ≡ dirty self t ⌝ }
+    {
+        let n = self.size();
+        self.dirty_among(t, 0, n)
+    }
+
+    // The same of operation q alone.
+    pub fn dirty_one(self, t: usize, q: usize) -> bool
+        ensures { λ r. ⌜ r ≡ dirtyAt self t q ⌝ }
+    {
+        if Operation::MOST <= q {
+            return false;
+        }
+        self.dirty_among(t, q, 1)
     }
 
     // Whether an undo t has to wait with this operation for another's that is active.

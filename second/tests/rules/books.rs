@@ -1,7 +1,7 @@
 //! Small books to try the rules with. All their fields are below 128, so a
 //! field is a byte.
 
-use second::{read, Reading};
+use second::{read, report, Reading};
 
 pub const READ: u8 = 0;
 pub const WRITE: u8 = 1;
@@ -48,6 +48,14 @@ impl Book {
 
     pub fn delegate(self, giver: u8, receiver: u8, operation: u8) -> Book {
         self.then(&[5, giver, receiver, operation])
+    }
+
+    pub fn commit_operation(self, t: u8, operation: u8) -> Book {
+        self.then(&[6, t, operation])
+    }
+
+    pub fn abort_operation(self, t: u8, operation: u8) -> Book {
+        self.then(&[7, t, operation])
     }
 
     /// Begins a step of a saga and commits it.
@@ -101,4 +109,12 @@ pub fn handed_to_and_fro(times: usize) -> Book {
 pub fn answer(bytes: &[u8]) -> (u8, usize, usize) {
     let reading = read(bytes);
     (reading.number, reading.events, reading.place)
+}
+
+/// The pairs of a book, first before second.
+pub fn pairs(book: &Book) -> Vec<(usize, usize)> {
+    let rows = report(&book.read()).pairs;
+    let all = (0..64).flat_map(|first| (0..64).map(move |second| (first, second)));
+    all.filter(|(first, second)| rows[*first] >> second & 1 == 1)
+        .collect()
 }

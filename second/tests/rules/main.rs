@@ -5,6 +5,7 @@ mod closing;
 mod decided;
 mod line;
 mod refusals;
+mod single;
 mod ties;
 mod writing;
 mod wrong_turns;

@@ -131,7 +131,7 @@ fn the_most_dependencies() {
 #[test]
 fn number_7_event_code() {
     let book = Book::begun(1, 0);
-    for code in [0, 6, 127] {
+    for code in [0, 8, 9, 127] {
         book.clone().then(&[code]).refuses_last(7, 1);
     }
     book.clone().then(&[0x80, 0x02]).refuses_last(7, 2);

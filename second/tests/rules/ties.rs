@@ -1,15 +1,6 @@
 //! Ties between operations, rings and dirty reads.
 
-use crate::books::{Book, READ, WRITE};
-use second::report;
-
-/// The pairs of a book, first before second.
-fn pairs(book: &Book) -> Vec<(usize, usize)> {
-    let rows = report(&book.read()).pairs;
-    let all = (0..64).flat_map(|first| (0..64).map(move |second| (first, second)));
-    all.filter(|(first, second)| rows[*first] >> second & 1 == 1)
-        .collect()
-}
+use crate::books::{pairs, Book, READ, WRITE};
 
 #[test]
 fn only_conflicting_operations_on_one_object_are_tied() {

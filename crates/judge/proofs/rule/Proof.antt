@@ -34,6 +34,18 @@ enum-known-event-5 c = search needs
 delegate-requires : tie.Need-delegate-requires
 delegate-requires c κs = search needs
 
+enum-known-event-6 : tie.Need-enum-known-event-6
+enum-known-event-6 c = search needs
+
+commit-one-requires : tie.Need-commit-one-requires
+commit-one-requires c κs = search needs
+
+enum-known-event-7 : tie.Need-enum-known-event-7
+enum-known-event-7 c = search needs
+
+abort-one-requires : tie.Need-abort-one-requires
+abort-one-requires c κs = search needs
+
 returns : tie.Need-returns
 unfolding rulingOf
 returns c = c .begin .ensures ∙ ap (rulingOf (c .before .before .before .before .before .before .args .tables) (c .before .before .before .before .before .before .args .state)) (sym (c .before .before .event .given .1))
@@ -54,6 +66,14 @@ returns-5 : tie.Need-returns-5
 unfolding rulingOf
 returns-5 c = c .delegate .ensures ∙ ap (rulingOf (c .before .before .before .before .before .before .args .tables) (c .before .before .before .before .before .before .args .state)) (sym (c .before .before .event5 .given .1))
 
+returns-6 : tie.Need-returns-6
+unfolding rulingOf
+returns-6 c = c .commit-one .ensures ∙ ap (rulingOf (c .before .before .before .before .before .before .args .tables) (c .before .before .before .before .before .before .args .state)) (sym (c .before .before .event6 .given .1))
+
+returns-7 : tie.Need-returns-7
+unfolding rulingOf
+returns-7 c = c .abort-one .ensures ∙ ap (rulingOf (c .before .before .before .before .before .before .args .tables) (c .before .before .before .before .before .before .args .state)) (sym (c .before .before .event7 .given .1))
+
 pub rule-spec : {M : Type 1} → statement M
 rule-spec =
     tie.close
@@ -68,8 +88,14 @@ rule-spec =
     operation-requires
     enum-known-event-5
     delegate-requires
+    enum-known-event-6
+    commit-one-requires
+    enum-known-event-7
+    abort-one-requires
     returns
     returns-2
     returns-3
     returns-4
-    returns-5)
+    returns-5
+    returns-6
+    returns-7)

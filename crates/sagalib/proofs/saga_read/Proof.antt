@@ -7,13 +7,16 @@ use Rattle.sagalib.proofs.saga_read.Tie as tie
 read-requires : tie.Need-read-requires
 read-requires c κs = search needs
 
-verdict-number-requires : tie.Need-verdict-number-requires
-verdict-number-requires c κs = search needs
+number-requires : tie.Need-number-requires
+number-requires c κs = search needs
+
+cast-number : tie.Need-cast-number
+cast-number c = search needs
 
 returns : tie.Need-returns
 returns c =
     let read = c .before .before .read in
-    read-is (now (c .before .before .before .before .args .book)) (read .result) (read .ensures) (c .before .verdict-number .result) (c .before .verdict-number .ensures)
+    read-is (now (c .before .before .before .before .args .book)) (read .result) (read .ensures) (c .before .number .result) (c .before .number .ensures)
 
 pub saga-read-spec : {M : Type 1} → statement M
-saga-read-spec = tie.close (tie.spec read-requires verdict-number-requires returns)
+saga-read-spec = tie.close (tie.spec read-requires number-requires cast-number returns)

@@ -24,11 +24,17 @@ ended-requires c κs = search needs
 enum-known-change-3 : tie.Need-enum-known-change-3
 enum-known-change-3 c = search needs
 
-made-requires : tie.Need-made-requires
-made-requires c κs = search needs
+ended-one-requires : tie.Need-ended-one-requires
+ended-one-requires c κs = search needs
 
 enum-known-change-4 : tie.Need-enum-known-change-4
 enum-known-change-4 c = search needs
+
+made-requires : tie.Need-made-requires
+made-requires c κs = search needs
+
+enum-known-change-5 : tie.Need-enum-known-change-5
+enum-known-change-5 c = search needs
 
 given-requires : tie.Need-given-requires
 given-requires c κs = search needs
@@ -47,11 +53,15 @@ returns-3 c = rw (c .before .before .before .change2 .given .1, c .before .enter
 
 returns-4 : tie.Need-returns-4
 unfolding stateAfter
-returns-4 c = rw (c .before .before .change3 .given .1, c .made .ensures)
+returns-4 c = rw (c .before .before .change3 .given .1, c .ended-one .ensures)
 
 returns-5 : tie.Need-returns-5
 unfolding stateAfter
-returns-5 c = rw (c .before .before .change4 .given .1, c .given .ensures)
+returns-5 c = rw (c .before .before .change4 .given .1, c .made .ensures)
+
+returns-6 : tie.Need-returns-6
+unfolding stateAfter
+returns-6 c = rw (c .before .before .change5 .given .1, c .given .ensures)
 
 pub changed-spec : {M : Type 1} → statement M
 changed-spec =
@@ -64,11 +74,14 @@ changed-spec =
     entered-requires-2
     ended-requires
     enum-known-change-3
-    made-requires
+    ended-one-requires
     enum-known-change-4
+    made-requires
+    enum-known-change-5
     given-requires
     returns
     returns-2
     returns-3
     returns-4
-    returns-5)
+    returns-5
+    returns-6)

@@ -1,134 +1,19 @@
+use mathlib.Core.Path.{_∙_}
+use Rattle.ties.proofs.TieLaws.{dirty-all}
 use borrow.Author.Needs.{needs}
-use native.Mathlib.Omega.{arith}
-use Prim.Native.Nat.{ℕ, _-_, _≤_}
-use mathlib.Core.Path.{_≡_, refl}
-use mathlib.Core.Bool.{Bool, false}
-use mathlib.Core.Logic.{⊎-elim}
-use Rattle.laws.specs.Index.{anyBelow}
-use Rattle.laws.proofs.IndexLaws.{any-none, search-miss, search-end}
-use Rattle.ties.specs.declared.Ops.{Ops}
-use Rattle.ties.specs.Operations.{opAt, size}
-use Rattle.ties.specs.Ties.{readBy, dirties, dirtyAt, dirty}
-use Rattle.laws.proofs.SearchLaws.{within, within-hit, within-not, within-none}
 use Rattle.ties.proofs.Ops.dirty.Statement.{statement}
 use Rattle.ties.proofs.Ops.dirty.Tie as tie
 
--- operation j is a read that t answers for, and operation i dirties it
-abbrev reads-it : Ops → ℕ → ℕ → Bool
-reads-it ops t j = readBy t (opAt ops j)
-
-abbrev dirties-it : Ops → ℕ → ℕ → ℕ → Bool
-dirties-it ops t j i = dirties t (opAt ops j) j (opAt ops i)
-
--- none of the first i dirties j
-abbrev Inv-loop2 : tie.InvT-loop2
-Inv-loop2 t self n j q i₀ i = (i ≤ j) × (anyBelow i (dirties-it self t j) ≡ false)
-
-abbrev μ-loop2 : tie.MeasureT-loop2
-μ-loop2 t self n j q i₀ i = j - i
-
--- none of the first j is a dirty read
-abbrev Inv-loop : tie.InvT-loop
-Inv-loop t self n j₀ j = (j ≤ n) × (anyBelow j (within (reads-it self t) (dirties-it self t)) ≡ false)
-
-abbrev μ-loop : tie.MeasureT-loop
-μ-loop t self n j₀ j = n - j
-
-size-requires : tie.Need-size-requires Inv-loop2 μ-loop2 Inv-loop μ-loop
+size-requires : tie.Need-size-requires
 size-requires c κs = search needs
 
-loop-holds : tie.Need-loop-holds Inv-loop2 μ-loop2 Inv-loop μ-loop
-loop-holds c = (omega arith, any-none _)
+dirty-among-requires : tie.Need-dirty-among-requires
+dirty-among-requires c κs = search needs
 
-mul-q : tie.Need-mul-q Inv-loop2 μ-loop2 Inv-loop μ-loop
-mul-q c = search needs
-
-element-copy-out-q : tie.Need-element-copy-out-q Inv-loop2 μ-loop2 Inv-loop μ-loop
-element-copy-out-q c = search needs
-
-read-by-requires : tie.Need-read-by-requires Inv-loop2 μ-loop2 Inv-loop μ-loop
-read-by-requires c κs = search needs
-
-loop2-holds : tie.Need-loop2-holds Inv-loop2 μ-loop2 Inv-loop μ-loop
-loop2-holds c = (omega arith, any-none _)
-
-mul-p : tie.Need-mul-p Inv-loop2 μ-loop2 Inv-loop μ-loop
-mul-p c = search needs
-
-element-copy-out-p : tie.Need-element-copy-out-p Inv-loop2 μ-loop2 Inv-loop μ-loop
-element-copy-out-p c = search needs
-
-dirties-requires : tie.Need-dirties-requires Inv-loop2 μ-loop2 Inv-loop μ-loop
-dirties-requires c κs = search needs
-
-returns : tie.Need-returns Inv-loop2 μ-loop2 Inv-loop μ-loop
-unfolding dirty dirtyAt
+returns : tie.Need-returns
 returns c =
-    let a = c .before .before .before .before .before .before .before .before .before .before .before .args in
-    within-hit (reads-it (a .t1) (a .t)) (dirties-it (a .t1) (a .t)) (size (a .t1)) (c .before .before .before .before .before .before .before .before .before .loop .j) (c .before .before .before .before .loop2 .i)
-    (c .before .before .before .before .before .before .read-by .ensures) (c .before .before .before .before .before .if1 .taken) (c .before .dirties .ensures) (c .if2 .taken) (omega arith) (omega arith)
-
-add-i : tie.Need-add-i Inv-loop2 μ-loop2 Inv-loop μ-loop
-add-i c = search needs
-
-loop2-less : tie.Need-loop2-less Inv-loop2 μ-loop2 Inv-loop μ-loop
-loop2-less c = search needs
-
-loop2-again : tie.Need-loop2-again Inv-loop2 μ-loop2 Inv-loop μ-loop
-loop2-again c =
-    let a = c .before .before .before .before .before .before .before .before .before .before .before .args in
-    let l = c .before .before .before .before .loop2 in
-    (omega arith, search-miss (dirties-it (a .t1) (a .t) (c .before .before .before .before .before .before .before .before .before .loop .j)) (l .i) (l .inv .1) (c .before .dirties .ensures) (c .if2 .left))
-
-add-j : tie.Need-add-j Inv-loop2 μ-loop2 Inv-loop μ-loop
-add-j c = search needs
-
-loop-less : tie.Need-loop-less Inv-loop2 μ-loop2 Inv-loop μ-loop
-loop-less c = search needs
-
-loop-again : tie.Need-loop-again Inv-loop2 μ-loop2 Inv-loop μ-loop
-loop-again c =
-    let a = c .before .before .before .before .before .before .args in
-    let l = c .before .before .before .before .loop in
-    let reading = reads-it (a .t1) (a .t) in
-    let dirtying = dirties-it (a .t1) (a .t) in (
-      omega arith,
-      search-miss (within reading dirtying) (l .j) (l .inv .1)
-          (⊎-elim
-          (λ w. within-none reading dirtying (l .j) (w .1 .i) (w .1 .inv .1) (omega arith))
-          (λ w. within-not reading dirtying (l .j) (c .before .read-by .ensures) (w .left))
-          (c .if1 .came))
-          refl,
-    )
-
-returns-2 : tie.Need-returns-2 Inv-loop2 μ-loop2 Inv-loop μ-loop
-unfolding dirty dirtyAt
-returns-2 c =
-    let a = c .before .before .before .args in
-    search-end (within (reads-it (a .t1) (a .t)) (dirties-it (a .t1) (a .t))) (size (a .t1)) (c .before .loop .j) (c .before .loop .inv .1) (omega arith)
+    let a = c .before .before .args in
+    c .dirty-among .ensures ∙ dirty-all (a .self) (a .t) (c .before .size .result) (c .before .size .ensures)
 
 pub dirty-spec : {M : Type 1} → statement M
-dirty-spec =
-    tie.close
-    (tie.spec
-    Inv-loop2
-    μ-loop2
-    Inv-loop
-    μ-loop
-    size-requires
-    loop-holds
-    mul-q
-    element-copy-out-q
-    read-by-requires
-    loop2-holds
-    mul-p
-    element-copy-out-p
-    dirties-requires
-    returns
-    add-i
-    loop2-less
-    loop2-again
-    add-j
-    loop-less
-    loop-again
-    returns-2)
+dirty-spec = tie.close (tie.spec size-requires dirty-among-requires returns)

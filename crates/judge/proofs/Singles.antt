@@ -1,0 +1,148 @@
+-- One operation ended alone: when it is accepted, and that nothing else changes.
+use Prim.Native.Nat.{ℕ, _<_}
+use native.Mathlib.Omega.{arith}
+use mathlib.Core.Path.{_≡_, refl, sym, ap, subst, _∙_}
+use mathlib.Core.Bool.{Bool, true, false, not, _&&_, _||_, false≢true}
+use lib.Dec.{ltb, eqb}
+use borrow.Author.Tests.{eq-eqb, eqb-true, lt-ltb}
+use Rattle.laws.specs.Index.{anyBelow}
+use Rattle.laws.specs.Lines.{Off}
+use Rattle.laws.proofs.Bools.{and-off, and-on, and-rest, bool-cases, clash, not-off, off-not, off-or, on-and, on-not}
+use Rattle.laws.proofs.Decisions.{same-or}
+use Rattle.laws.proofs.IndexLaws.{any-off, off-any}
+use Rattle.terms.specs.declared.Verdict.the-variants.{Accepted}
+use Rattle.ties.specs.Operations.{endedOne, isAborted as isAbortedOp, isActive as isActiveOp, isWrite, opAt, size}
+use Rattle.ties.specs.Ties.{cleanFor, dirties, dirtyAt, onRing, readBy, tied, tiedTo}
+use Rattle.ties.specs.declared.Fate.{Fate}
+use Rattle.ties.specs.declared.Fate.the-variants.{Aborted as FateAborted, Active as FateActive, Committed as FateCommitted}
+use Rattle.ties.proofs.OpsLaws.{one-at}
+use Rattle.ties.proofs.TieLaws.{tie-made, tie-parts}
+use Rattle.tables.specs.Sorts.{isKnown, isPlain, sortOf}
+use Rattle.tables.specs.declared.Sort.{Sort}
+use Rattle.tables.specs.declared.Sort.the-variants.{Plain, Saga, Step, Undo, Unknown}
+use Rattle.tables.specs.declared.Tables.{Tables}
+use Rattle.judge.specs.Judge.{judged, singleLines, stateAfter, unknown}
+use Rattle.judge.specs.Promises.{EndedAlone, MayCommitOne, MayEndOne, OnlyEnds}
+use Rattle.judge.specs.States.{isActive, phaseOf}
+use Rattle.judge.specs.declared.Change.the-variants.{EndsOne}
+use Rattle.judge.specs.declared.Event.the-variants.{AbortOne, CommitOne}
+use Rattle.judge.specs.declared.State.{State}
+use Rattle.judge.proofs.RuleLaws.{single-known}
+use Rattle.judge.proofs.RunLaws.{lines-off, next-ok, off-lines}
+
+plain-known : (x : Sort) → isPlain x ≡ true → not (isKnown x) ≡ false
+plain-known (Saga f n) e = absurd (false≢true e)
+plain-known (Step f n i) e = absurd (false≢true e)
+plain-known (Undo f n i) e = absurd (false≢true e)
+plain-known Plain e = refl
+plain-known Unknown e = absurd (false≢true e)
+
+active-stands : (f : Fate) → isActiveOp f ≡ true → isAbortedOp f ≡ false
+active-stands FateAborted e = absurd (false≢true e)
+active-stands FateActive e = refl
+active-stands FateCommitted e = refl
+
+module _ (tables : Tables) (s : State) (t q : ℕ) where
+  -- the lines that a single commit and a single abort share
+  shared-may : Off (singleLines tables (s .transactions) (s .ops) t q) → MayEndOne tables s t q
+  shared-may off =
+      record {
+        plain = off-not (isPlain (sortOf tables t)) (off .1 .0);
+        active = off-not (isActive (phaseOf (s .transactions) t)) (off .1 .1 .0);
+        accepted = single-known tables (s .ops) t q (off .0);
+        mine = eqb-true (opAt (s .ops) q .responsible) t (off-not (eqb (opAt (s .ops) q .responsible) t) (off .1 .1 .1 .0));
+        running = off-not (isActiveOp (opAt (s .ops) q .fate)) (off .1 .1 .1 .1 .0);
+      }
+
+  module _ (may : MayEndOne tables s t q) where
+    known : (unknown tables t || not (ltb q (size (s .ops)))) ≡ false
+    known = rw (plain-known (sortOf tables t) (may .plain), lt-ltb q (size (s .ops)) (may .accepted))
+
+    not-plain : not (isPlain (sortOf tables t)) ≡ false
+    not-plain = rw (may .plain)
+
+    not-active : not (isActive (phaseOf (s .transactions) t)) ≡ false
+    not-active = rw (may .active)
+
+    not-mine : not (eqb (opAt (s .ops) q .responsible) t) ≡ false
+    not-mine = rw (eq-eqb (opAt (s .ops) q .responsible) t (may .mine))
+
+    not-running : not (isActiveOp (opAt (s .ops) q .fate)) ≡ false
+    not-running = rw (may .running)
+
+    -- q as a read that t answers for
+    read-on : isWrite (opAt (s .ops) q .mark) ≡ false → readBy t (opAt (s .ops) q) ≡ true
+    read-on r = rw (eq-eqb (opAt (s .ops) q .responsible) t (may .mine), r, active-stands (opAt (s .ops) q .fate) (may .running))
+
+    -- the dirty-read rule for q alone, as a line and in words
+    dirty-clean : dirtyAt (s .ops) t q ≡ false → isWrite (opAt (s .ops) q .mark) ≡ false
+        → (p : ℕ) → isWrite (opAt (s .ops) p .mark) ≡ true → tied (s .ops) p q ≡ true → cleanFor t (opAt (s .ops) p) ≡ true
+    unfolding dirtyAt
+    dirty-clean d r p w tie =
+        let parts = tie-parts (s .ops) p q tie in
+        let none = and-rest (readBy t (opAt (s .ops) q)) (anyBelow q (λ i. dirties t (opAt (s .ops) q) q (opAt (s .ops) i))) d (read-on r) in
+        let at-p = off-any q (λ i. dirties t (opAt (s .ops) q) q (opAt (s .ops) i)) none p (parts .earlier) in
+        let tied-p = and-rest (isWrite (opAt (s .ops) p .mark)) (tiedTo (opAt (s .ops) p) (opAt (s .ops) q) q && not (cleanFor t (opAt (s .ops) p))) at-p w in
+        off-not (cleanFor t (opAt (s .ops) p)) (and-rest (tiedTo (opAt (s .ops) p) (opAt (s .ops) q) q) (not (cleanFor t (opAt (s .ops) p))) tied-p (parts .holds))
+
+    clean-dirty : (isWrite (opAt (s .ops) q .mark) ≡ false
+        → (p : ℕ) → isWrite (opAt (s .ops) p .mark) ≡ true → tied (s .ops) p q ≡ true → cleanFor t (opAt (s .ops) p) ≡ true)
+        → dirtyAt (s .ops) t q ≡ false
+    unfolding dirtyAt
+    clean-dirty clean =
+        and-off (readBy t (opAt (s .ops) q)) (anyBelow q (λ i. dirties t (opAt (s .ops) q) q (opAt (s .ops) i)))
+        (λ r.
+        let own = on-and (eqb (opAt (s .ops) q .responsible) t) (not (isWrite (opAt (s .ops) q .mark)) && not (isAbortedOp (opAt (s .ops) q .fate))) r in
+        let read = on-not (isWrite (opAt (s .ops) q .mark)) (on-and (not (isWrite (opAt (s .ops) q .mark))) (not (isAbortedOp (opAt (s .ops) q .fate))) (own .1) .0) in
+        any-off q (λ i. dirties t (opAt (s .ops) q) q (opAt (s .ops) i))
+        (λ i l.
+        and-off (isWrite (opAt (s .ops) i .mark)) (tiedTo (opAt (s .ops) i) (opAt (s .ops) q) q && not (cleanFor t (opAt (s .ops) i)))
+        (λ w.
+        and-off (tiedTo (opAt (s .ops) i) (opAt (s .ops) q) q) (not (cleanFor t (opAt (s .ops) i)))
+        (λ tie.
+        not-off (cleanFor t (opAt (s .ops) i))
+        (clean read i w (tie-made (s .ops) i q (record { accepted = may .accepted; earlier = l; holds = tie })))))))
+
+  commit-may : judged tables s (CommitOne t q) .verdict ≡ Accepted → MayCommitOne tables s t q
+  commit-may v =
+      let off = lines-off tables s (CommitOne t q) v in
+      let may = shared-may (off .0, (off .1 .0, (off .1 .1 .0, (off .1 .1 .1 .0, (off .1 .1 .1 .1 .0, tt))))) in
+      record { may-end = may; clean = dirty-clean may (off .1 .1 .1 .1 .1 .0); off-rings = off .1 .1 .1 .1 .1 .1 .0 }
+
+  may-commit : MayCommitOne tables s t q → judged tables s (CommitOne t q) .verdict ≡ Accepted
+  may-commit may =
+      let end = may .may-end in
+      off-lines tables s (CommitOne t q)
+      (known end, (not-plain end, (not-active end, (not-mine end, (not-running end, (clean-dirty end (may .clean), (may .off-rings, tt)))))))
+
+  abort-may : judged tables s (AbortOne t q) .verdict ≡ Accepted → MayEndOne tables s t q
+  abort-may v = shared-may (lines-off tables s (AbortOne t q) v)
+
+  may-abort : MayEndOne tables s t q → judged tables s (AbortOne t q) .verdict ≡ Accepted
+  may-abort end = off-lines tables s (AbortOne t q) (known end, (not-plain end, (not-active end, (not-mine end, (not-running end, tt)))))
+
+  only-ends : (fate : Fate) → isActiveOp (opAt (s .ops) q .fate) ≡ true → OnlyEnds s (stateAfter (EndsOne q fate) s) q fate
+  unfolding stateAfter endedOne
+  only-ends fate running =
+      record {
+        transactions = refl;
+        count = refl;
+        operations = λ p.
+            one-at q fate (s .ops) p
+            ∙ same-or p q
+            (λ e. rw (eq-eqb p q e, e, running))
+            (λ e. bool-cases (eqb p q) (λ b. absurd (e (eqb-true p q b))) (λ b. rw b));
+      }
+
+pub ended-alone : (tables : Tables) (s : State) (t q : ℕ) → EndedAlone tables s t q
+ended-alone tables s t q =
+    record {
+      commit-accepted = (commit-may tables s t q, may-commit tables s t q);
+      commit-ends = λ v.
+          subst (λ (x : State). OnlyEnds s x q FateCommitted) (sym (next-ok tables s (CommitOne t q) v))
+          (only-ends tables s t q FateCommitted (commit-may tables s t q v .may-end .running));
+      abort-accepted = (abort-may tables s t q, may-abort tables s t q);
+      abort-ends = λ v.
+          subst (λ (x : State). OnlyEnds s x q FateAborted) (sym (next-ok tables s (AbortOne t q) v))
+          (only-ends tables s t q FateAborted (abort-may tables s t q v .running));
+    }

@@ -1,0 +1,2 @@
+-- Laws of the probe.
+pub mod ProbeLaws

@@ -1,0 +1,2 @@
+-- The event that is measured, and its answer.
+pub mod Probed
