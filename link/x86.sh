@@ -42,7 +42,7 @@ c_program() {
 }
 
 c_by_machine() {
-  cc -std=c11 -Wall -Wextra -O1 -o "$1" "$2" "$3"
+  cc -std=c11 -Wall -Wextra -O1 -Wl,-z,now -o "$1" "$2" "$3"
 }
 
 # The toolchain's compiler comes without headers; these two say what it knows by itself.
@@ -59,7 +59,7 @@ typedef __UINT64_TYPE__ uint64_t;
 #define UINT64_MAX __UINT64_MAX__
 C
   "$tools/bin/clang" --target=$target -std=c11 -Wall -Wextra -O1 -fPIE -ffreestanding -nostdinc -isystem "$include" -c "$2" -o "$1.o" &&
-    "$tools/bin/ld.lld" -pie --dynamic-linker=/lib64/ld-linux-x86-64.so.2 -o "$1" \
+    "$tools/bin/ld.lld" -pie -z now --dynamic-linker=/lib64/ld-linux-x86-64.so.2 -o "$1" \
       "$tools/lib/Scrt1.o" "$tools/lib/crti.o" "$tools/lib/crtbeginS.o" "$1.o" "$3" \
       "$tools/lib/libc.so.6" "$tools/lib/libc_nonshared.a" "$tools/lib/libgcc.a" "$tools/lib/crtendS.o" "$tools/lib/crtn.o"
 }

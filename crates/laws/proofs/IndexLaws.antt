@@ -9,9 +9,9 @@ use mathlib.Core.Logic.{_⊎_, inl, inr}
 use mathlib.Core.List.{List, [], _∷_}
 use lib.Dec.{eqb, ltb, eqb·suc-zero, eqb·zero-suc, eqb·suc-suc}
 use lib.ListN.{length, getD, set}
-use borrow.Author.Tests.{eqb-true, eq-eqb, lt-ltb, le-ltb}
+use borrow.Author.Tests.{eqb-true, lt-ltb, le-ltb}
 use Rattle.laws.specs.Index.{anyBelow, tabulate, grid}
-use Rattle.laws.proofs.Bools.{or-left, or-right, or-cases, or-off, off-or, and-on, on-and, together}
+use Rattle.laws.proofs.Bools.{or-left, or-right, or-cases, or-off, off-or, together}
 use Rattle.laws.proofs.Decisions.{same-or, lt-or}
 
 -- ---- is there one
@@ -59,16 +59,6 @@ any-same n f g h =
     together (anyBelow n f) (anyBelow n g)
     (λ e. let r = any-elim n f e in any-intro n g (r .0) (r .1) (sym (h (r .0) (r .1)) ∙ r .2))
     (λ e. let r = any-elim n g e in any-intro n f (r .0) (r .1) (h (r .0) (r .1) ∙ r .2))
-
--- k is the one number at which `f b` and `k is b` both hold
-pub any-one : (n : ℕ) (f : ℕ → Bool) (k : ℕ) → k < n → anyBelow n (λ b. f b && eqb k b) ≡ f k
-any-one n f k l =
-    together (anyBelow n (λ b. f b && eqb k b)) (f k)
-    (λ h.
-    let r = any-elim n (λ b. f b && eqb k b) h in
-    let both = on-and (f (r .0)) (eqb k (r .0)) (r .2) in
-    rw (eqb-true k (r .0) (both .1)) (both .0))
-    (λ h. any-intro n (λ b. f b && eqb k b) k l (and-on (f k) (eqb k k) h (eq-eqb k k refl)))
 
 -- ---- a search with an early return: b is the test that the code made at i
 

@@ -1,82 +1,107 @@
--- Working outward from t: a set that holds what one step from t leads to, holds only what t leads to, and gains nothing by another step
--- holds exactly what t leads to.
-use Prim.Native.Nat.{ℕ, _+_, _<_}
-use mathlib.Core.Path.{_≡_, refl, sym, ap, ap₂, _∙_}
-use mathlib.Core.Bool.{Bool, true, false, _&&_, _||_, or-false, or-assoc}
-use mathlib.Core.Logic.{⊎-elim}
-use lib.Bits.{bitOr}
-use Rattle.laws.specs.Index.{anyBelow}
-use Rattle.laws.proofs.Bools.{or-left, or-right, or-cases, and-on, on-and}
-use Rattle.laws.proofs.IndexLaws.{any-none, any-more, any-intro, any-elim}
-use Rattle.terms.specs.Limits.{mostTransactions}
+-- Working outward from t with two sets: those reached, and those still to visit. Each turn visits one: what it leads to is reached, and what of
+-- that is new is to visit.
+use Prim.Native.Nat.{ℕ, _+_, _-_, _^_, _<_}
+use native.Mathlib.Omega.{arith}
+use mathlib.Core.Path.{_≡_, refl, sym, ap, _∙_, subst}
+use mathlib.Core.Bool.{Bool, true, false, not, _&&_, and-false}
+use mathlib.Core.Logic.{_⊎_, inl, inr, ⊎-elim}
+use lib.Bits.{bitOr, or-add-and, or-lt}
+use lib.Dec.{eqb}
+use borrow.Author.Tests.{eqb-true, eq-eqb, ne-eqb}
+use Rattle.laws.proofs.Bools.{or-left, or-right, or-cases, or-off, off-or, and-on, on-and, and-off, not-on, bool-cases, clash}
+use Rattle.laws.proofs.Decisions.{same-or}
 use Rattle.sets.specs.Reach.{Leads}
 use Rattle.sets.specs.Sets.{mem}
-use Rattle.sets.proofs.SetLaws.{mem-union}
+use Rattle.sets.proofs.SetLaws.{mem-empty, mem-union, fewer-lt, apart-sum}
 use Rattle.sets.proofs.ReachLaws.{join}
 
--- y is x with all that one step of R leads to from its members
-abbrev pub Widens : (ℕ → ℕ → Bool) → ℕ → ℕ → Type 0
-Widens R x y = (k : ℕ) → k < mostTransactions → mem y k ≡ (mem x k || anyBelow mostTransactions (λ a. mem x a && R a k))
+-- k is t, or was reached
+abbrev pub Met : ℕ → ℕ → ℕ → Type 0
+Met t x k = (k ≡ t) ⊎ (mem x k ≡ true)
 
--- x holds what one step from t leads to, and only what t leads to
-pub record Good (R : ℕ → ℕ → Bool) (t x : ℕ) : Type 0 where
-  pub starts : (k : ℕ) → k < mostTransactions → R t k ≡ true → mem x k ≡ true
-  pub leads : (k : ℕ) → k < mostTransactions → mem x k ≡ true → Leads R t k
+-- x has been reached from t, and w is still to visit
+pub record Outward (R : ℕ → ℕ → Bool) (t x w : ℕ) : Type 0 where
+  -- only what t leads to is reached, and t itself is not
+  pub leads : (k : ℕ) → mem x k ≡ true → Leads R t k
+  pub free : mem x t ≡ false
+  -- only t and what was reached are to visit
+  pub known : (k : ℕ) → mem w k ≡ true → Met t x k
+  -- of the others of those, all that they lead to in one step is reached
+  pub done : (k b : ℕ) → Met t x k → mem w k ≡ false → R k b ≡ true → mem x b ≡ true
 
 module _ (R : ℕ → ℕ → Bool) (t : ℕ) where
-  pub good-first : (x : ℕ) → ((k : ℕ) → k < mostTransactions → mem x k ≡ R t k) → Good R t x
-  good-first x h = record { starts = λ k l e. h k l ∙ e; leads = λ k l e. Leads.last (sym (h k l) ∙ e) }
+  -- nothing is reached, and t is to visit
+  pub outward-first : (w : ℕ) → ((k : ℕ) → mem w k ≡ eqb k t) → Outward R t 0 w
+  outward-first w only =
+      record {
+        leads = λ k h. clash h (mem-empty k);
+        free = mem-empty t;
+        known = λ k h. inl (eqb-true k t (sym (only k) ∙ h));
+        done = λ k b met off r. ⊎-elim (λ e. clash (only k ∙ eq-eqb k t e) off) (λ h. clash h (mem-empty k)) met;
+      }
 
-  pub good-more : (x y : ℕ) → Good R t x → Widens R x y → Good R t y
-  good-more x y g w = record {
-    starts = λ k l e. w k l ∙ or-left (mem x k) (anyBelow mostTransactions (λ a. mem x a && R a k)) (g .starts k l e);
-    leads = λ k l e. ⊎-elim
-        (λ h. g .leads k l h)
-        (λ h.
-        let r = any-elim mostTransactions (λ a. mem x a && R a k) h in
-        let both = on-and (mem x (r .0)) (R (r .0) k) (r .2) in
-        join (g .leads (r .0) (r .1) (both .0)) (Leads.last (both .1)))
-        (or-cases (mem x k) (anyBelow mostTransactions (λ a. mem x a && R a k)) (sym (w k l) ∙ e));
-  }
+  -- where nothing is left to visit, nothing leads back to t
+  module _ (x w : ℕ) (o : Outward R t x w) (empty : (k : ℕ) → mem w k ≡ false) where
+    reaches : {k b : ℕ} → Met t x k → Leads R k b → mem x b ≡ true
+    reaches {k} {b} met (Leads.last r) = o .done k b met (empty k) r
+    reaches {k} {b} met (Leads.step {b = c} r rest) = reaches (inr (o .done k c met (empty k) r)) rest
 
-  module _ (small : (a b : ℕ) → R a b ≡ true → (a < mostTransactions) × (b < mostTransactions)) (x : ℕ) (g : Good R t x) (w : Widens R x x) where
-    step-in : (a b : ℕ) → mem x a ≡ true → R a b ≡ true → mem x b ≡ true
-    step-in a b m h =
-        w b (small a b h .1)
-        ∙ or-right (mem x b) (anyBelow mostTransactions (λ c. mem x c && R c b))
-        (any-intro mostTransactions (λ c. mem x c && R c b) a (small a b h .0) (and-on (mem x a) (R a b) m h))
+    pub outward-closed : Leads R t t → ⊥
+    outward-closed way = clash (reaches (inl refl) way) (o .free)
 
-    stays : {a b : ℕ} → mem x a ≡ true → Leads R a b → mem x b ≡ true
-    stays {a} {b} m (Leads.last h) = step-in a b m h
-    stays {a} {b} m (Leads.step {b = c} h v) = stays (step-in a c m h) v
+  -- a is to visit, and f is all that a leads to in one step
+  module _ (x w : ℕ) (o : Outward R t x w) (a f : ℕ) (here : mem w a ≡ true) (found : (k : ℕ) → mem f k ≡ R a k) where
+    led : (k : ℕ) → mem f k ≡ true → Leads R t k
+    led k h =
+        let step : R a k ≡ true = sym (found k) ∙ h in
+        ⊎-elim
+        (λ e. Leads.last (subst (λ (c : ℕ). R c k ≡ true) e step))
+        (λ m. join (o .leads a m) (Leads.last step))
+        (o .known a here)
 
-    reaches : {b : ℕ} → Leads R t b → mem x b ≡ true
-    reaches {b} (Leads.last h) = g .starts b (small t b h .1) h
-    reaches {b} (Leads.step {b = c} h v) = stays (g .starts c (small t c h .1) h) v
+    -- t is found
+    pub outward-back : mem f t ≡ true → Leads R t t
+    outward-back h = led t h
 
-    pub good-end : (k : ℕ) → k < mostTransactions → (mem x k ≡ true → Leads R t k) × (Leads R t k → mem x k ≡ true)
-    good-end k l = (g .leads k l, λ v. reaches v)
+    -- t is not: g is what is new in f, and r is what is left to visit
+    module _ (g r : ℕ) (new : (k : ℕ) → mem g k ≡ (mem f k && not (mem x k))) (left : (k : ℕ) → mem r k ≡ (mem w k && not (eqb k a))) where
+      reached : (k : ℕ) → mem (bitOr x g) k ≡ true → (mem x k ≡ true) ⊎ (mem f k ≡ true)
+      reached k h =
+          ⊎-elim (λ m. inl m) (λ m. inr (on-and (mem f k) (not (mem x k)) (sym (new k) ∙ m) .0)) (or-cases (mem x k) (mem g k) (sym (mem-union x g k) ∙ h))
 
--- ---- a set widened by a table, row by row
+      old : (k : ℕ) → mem x k ≡ true → mem (bitOr x g) k ≡ true
+      old k h = mem-union x g k ∙ or-left (mem x k) (mem g k) h
 
--- k is in x, or one step from one of its members below a
-abbrev pub spread : (ℕ → ℕ → Bool) → ℕ → ℕ → ℕ → Bool
-spread R x a k = mem x k || anyBelow a (λ c. mem x c && R c k)
+      both : (k : ℕ) → mem f k ≡ true → mem (bitOr x g) k ≡ true
+      both k h =
+          bool-cases (mem x k) (old k)
+          (λ off. mem-union x g k ∙ or-right (mem x k) (mem g k) (new k ∙ and-on (mem f k) (not (mem x k)) h (not-on (mem x k) off)))
 
-pub spread-none : (R : ℕ → ℕ → Bool) (x k : ℕ) → mem x k ≡ spread R x 0 k
-spread-none R x k = sym (ap (λ (u : Bool). mem x k || u) (any-none (λ c. mem x c && R c k)) ∙ or-false (mem x k))
+      pub outward-more : mem f t ≡ false → Outward R t (bitOr x g) (bitOr r g)
+      outward-more away =
+          record {
+            leads = λ k h. ⊎-elim (o .leads k) (led k) (reached k h);
+            free = mem-union x g t ∙ or-off (mem x t) (mem g t) (o .free) (new t ∙ ap (λ (b : Bool). b && not (mem x t)) away);
+            known = λ k h. ⊎-elim
+                (λ m. ⊎-elim (λ e. inl e) (λ n. inr (old k n)) (o .known k (on-and (mem w k) (not (eqb k a)) (sym (left k) ∙ m) .0)))
+                (λ m. inr (mem-union x g k ∙ or-right (mem x k) (mem g k) m))
+                (or-cases (mem r k) (mem g k) (sym (mem-union r g k) ∙ h));
+            done = λ k b met off s.
+                let gone = off-or (mem r k) (mem g k) (sym (mem-union r g k) ∙ off) in
+                let before : Met t x k = ⊎-elim (λ e. inl e) (λ m. ⊎-elim (λ n. inr n) (λ n. clash n (gone .1)) (or-cases (mem x k) (mem g k) (sym (mem-union x g k) ∙ m))) met in
+                same-or k a
+                (λ e. both b (found b ∙ subst (λ (c : ℕ). R c b ≡ true) e s))
+                (λ e.
+                bool-cases (mem w k)
+                (λ m. clash (left k ∙ and-on (mem w k) (not (eqb k a)) m (not-on (eqb k a) (ne-eqb k a e))) (gone .0))
+                (λ m. old b (o .done k b before m s)));
+          }
 
-module _ (R : ℕ → ℕ → Bool) (x out a : ℕ) (h : (k : ℕ) → k < mostTransactions → mem out k ≡ spread R x a k) where
-  next : (k : ℕ) → (spread R x a k || (mem x a && R a k)) ≡ spread R x (a + 1) k
-  next k =
-      or-assoc (mem x k) (anyBelow a (λ c. mem x c && R c k)) (mem x a && R a k)
-      ∙ ap (λ (u : Bool). mem x k || u) (sym (any-more a (λ c. mem x c && R c k)))
-
-  pub spread-in : (s : ℕ) → mem x a ≡ true → ((k : ℕ) → k < mostTransactions → mem s k ≡ R a k)
-      → (k : ℕ) → k < mostTransactions → mem (bitOr out s) k ≡ spread R x (a + 1) k
-  spread-in s e r k l =
-      mem-union out s k ∙ ap₂ (λ (u v : Bool). u || v) (h k l) (r k l) ∙ ap (λ (v : Bool). spread R x a k || (v && R a k)) (sym e) ∙ next k
-
-  pub spread-out : mem x a ≡ false → (k : ℕ) → k < mostTransactions → mem out k ≡ spread R x (a + 1) k
-  spread-out e k l =
-      h k l ∙ sym (or-false (spread R x a k)) ∙ ap (λ (v : Bool). spread R x a k || (v && R a k)) (sym e) ∙ next k
+      -- each turn takes one from those to visit, and puts in only what is new among those reached
+      pub outward-less : x < 2 ^ 64 → w < 2 ^ 64 → g < 2 ^ 64 → r < 2 ^ 64 → (2 ^ 64 - bitOr x g) + bitOr r g < (2 ^ 64 - x) + w
+      outward-less hx hw hg hr =
+          let sum : bitOr x g ≡ x + g = apart-sum x g hx hg (λ k. and-off (mem x k) (mem g k) (λ m. new k ∙ rw m (and-false (mem f k)))) in
+          let most : bitOr x g < 2 ^ 64 = or-lt 64 x g hx hg in
+          let fewer : r < w =
+          fewer-lt r w hr hw (λ k m. on-and (mem w k) (not (eqb k a)) (sym (left k) ∙ m) .0) a (left a ∙ rw (eq-eqb a a refl, here)) here in
+          omega (arith, or-add-and r g)

@@ -1,20 +1,23 @@
--- Sets held as the bits of one number: what is in the empty set, in a set with one more, in a union; two sets with the same members are the same number.
+-- Sets held as the bits of one number: what is in the empty set, in a set with one more or without some, in a union; two sets with the same
+-- members are the same number.
 use Prim.Native.Nat.{ℕ, zero, suc, _+_, _*_, _/_, _%_, _^_, _≤_, _<_, zero-le, suc-le-suc}
 use native.Mathlib.Nat.{le-of-suc-le-suc, not-suc-le-zero, zero-lt-suc, zero-div, div-one, pow-suc, mul-mod-left, mul-div-mul-right, div-eq-of-lt, lt-of-lt-of-le, mod-lt, div-add-mod', div-lt-iff-lt-mul, mul-comm, div-div-eq-div-mul}
 use native.Mathlib.Omega.{arith}
 use mathlib.Core.Path.{_≡_, refl, sym, ap, ap₂, _∙_, subst, fun-ext}
 use native.Mathlib.Numerals.{add-one}
-use mathlib.Core.Bool.{Bool, true, false, cond, _&&_, _||_, or-false, false≢true}
+use mathlib.Core.Bool.{Bool, true, false, cond, not, _&&_, _||_, or-false, false≢true}
+use mathlib.Core.Logic.{_≢_}
 use lib.Dec.{eqb, ltb, eqb·suc-zero, eqb·zero-suc, eqb·suc-suc}
 use borrow.Author.Tests.{lt-ltb, le-ltb, eq-eqb, ne-eqb}
 use Rattle.terms.specs.Limits.{mostTransactions}
 use lib.Pow.{pow-mono, pow-pos, pow-lt}
 use lib.Arith.{lt-one}
-use lib.Bits.{bitOr, bitAnd, or-shr, or-mod, or-add-and, and-le-r, or-lt}
+use lib.Bits.{bitOr, bitAnd, bitXor, or-shr, or-mod, or-add-and, or-disjoint, and-le-r, or-lt, and-lt, and-shr, and-mod, xor-shr, xor-mod}
 use lib.Count.{ones, ones-step, trailingZeros, under}
-use Rattle.laws.specs.Index.{one, countBelow, firstBelow}
-use Rattle.laws.proofs.Bools.{bool-cases}
+use Rattle.laws.specs.Index.{one, anyBelow, countBelow, firstBelow}
+use Rattle.laws.proofs.Bools.{bool-cases, clash}
 use Rattle.laws.proofs.Decisions.{same-or, lt-or}
+use Rattle.laws.proofs.IndexLaws.{any-elim, off-any}
 use Rattle.laws.proofs.SameLaws.{count-same, first-same}
 use Rattle.sets.specs.Sets.{mem, inserted, setOf}
 
@@ -44,6 +47,36 @@ mem-union x y t =
     ∙ ap (λ (n : ℕ). eqb n 1) (or-mod (x / 2 ^ t) (y / 2 ^ t) 1)
     ∙ digit-or (x / 2 ^ t % 2) (y / 2 ^ t % 2) (mod-lt (x / 2 ^ t) two-pos) (mod-lt (y / 2 ^ t) two-pos)
 
+digit-and : (u v : ℕ) → u < 2 → v < 2 → eqb (bitAnd u v) 1 ≡ (eqb u 1 && eqb v 1)
+digit-and zero v p q = refl
+digit-and (suc zero) zero p q = refl
+digit-and (suc zero) (suc zero) p q = refl
+digit-and (suc zero) (suc (suc v)) p q = absurd (not-suc-le-zero (le-of-suc-le-suc (le-of-suc-le-suc q)))
+digit-and (suc (suc u)) v p q = absurd (not-suc-le-zero (le-of-suc-le-suc (le-of-suc-le-suc p)))
+
+-- what two sets share
+mem-both : (x y t : ℕ) → mem (bitAnd x y) t ≡ (mem x t && mem y t)
+unfolding mem
+mem-both x y t =
+    ap (λ (n : ℕ). eqb (n % 2) 1) (and-shr x y t)
+    ∙ ap (λ (n : ℕ). eqb n 1) (and-mod (x / 2 ^ t) (y / 2 ^ t) 1)
+    ∙ digit-and (x / 2 ^ t % 2) (y / 2 ^ t % 2) (mod-lt (x / 2 ^ t) two-pos) (mod-lt (y / 2 ^ t) two-pos)
+
+digit-off : (u v : ℕ) → u < 2 → v < 2 → eqb (bitXor u (bitAnd u v)) 1 ≡ (eqb u 1 && not (eqb v 1))
+digit-off zero v p q = refl
+digit-off (suc zero) zero p q = refl
+digit-off (suc zero) (suc zero) p q = refl
+digit-off (suc zero) (suc (suc v)) p q = absurd (not-suc-le-zero (le-of-suc-le-suc (le-of-suc-le-suc q)))
+digit-off (suc (suc u)) v p q = absurd (not-suc-le-zero (le-of-suc-le-suc (le-of-suc-le-suc p)))
+
+-- a set without what it shares with another
+pub mem-without : (x y t : ℕ) → mem (bitXor x (bitAnd x y)) t ≡ (mem x t && not (mem y t))
+unfolding mem
+mem-without x y t =
+    ap (λ (n : ℕ). eqb (n % 2) 1) (xor-shr x (bitAnd x y) t ∙ ap (bitXor (x / 2 ^ t)) (and-shr x y t))
+    ∙ ap (λ (n : ℕ). eqb n 1) (xor-mod (x / 2 ^ t) (bitAnd (x / 2 ^ t) (y / 2 ^ t)) 1 ∙ ap (bitXor (x / 2 ^ t % 2)) (and-mod (x / 2 ^ t) (y / 2 ^ t) 1))
+    ∙ digit-off (x / 2 ^ t % 2) (y / 2 ^ t % 2) (mod-lt (x / 2 ^ t) two-pos) (mod-lt (y / 2 ^ t) two-pos)
+
 -- the set of k alone
 pub mem-single : (k t : ℕ) → mem (2 ^ k) t ≡ eqb t k
 unfolding mem
@@ -69,6 +102,22 @@ inserted-in x t h = rw (lt-ltb t mostTransactions h)
 pub inserted-past : (x t : ℕ) → mostTransactions ≤ t → inserted x t ≡ x
 unfolding inserted
 inserted-past x t h = rw (le-ltb t mostTransactions h)
+
+pub mem-inserted : (x k t : ℕ) → k < mostTransactions → mem (inserted x k) t ≡ (mem x t || eqb t k)
+mem-inserted x k t h = ap (λ (y : ℕ). mem y t) (inserted-in x k h) ∙ mem-insert x k t
+
+-- the set of k alone, made from the empty one
+pub mem-alone : (k t : ℕ) → k < mostTransactions → mem (inserted 0 k) t ≡ eqb t k
+mem-alone k t h = mem-inserted 0 k t h ∙ ap (λ (b : Bool). b || eqb t k) (mem-empty t)
+
+-- a set without k; where k is past 63 it never was in it
+pub off-alone : (x k t : ℕ) → x < 2 ^ 64 → (mem x t && not (mem (inserted 0 k) t)) ≡ (mem x t && not (eqb t k))
+off-alone x k t h =
+    lt-or k mostTransactions
+    (λ l. ap (λ (b : Bool). mem x t && not b) (mem-alone k t l))
+    (λ l.
+    rw (inserted-past 0 k l, mem-empty t)
+    (same-or t k (λ e. rw (mem-past x t h (omega arith))) (λ e. rw (ne-eqb t k e))))
 
 -- a union is no smaller, as a number
 pub union-le : (x y : ℕ) → x ≤ bitOr x y
@@ -102,6 +151,25 @@ same-set (suc n) x y hx hy h =
     in
     let high : x / 2 ≡ y / 2 = same-set n (x / 2) (y / 2) (half-lt n x hx) (half-lt n y hy) (λ t l. sym (mem-half x t) ∙ h (suc t) (suc-le-suc l) ∙ mem-half y t) in
     sym (div-add-mod' x 2) ∙ ap₂ (λ (q r : ℕ). q * 2 + r) high low ∙ div-add-mod' y 2
+
+-- ---- sets compared as numbers
+
+module _ (x y : ℕ) (hx : x < 2 ^ 64) (hy : y < 2 ^ 64) where
+  -- a set with no member but another's, and not all of those
+  pub fewer-lt : ((k : ℕ) → mem x k ≡ true → mem y k ≡ true) → (a : ℕ) → mem x a ≡ false → mem y a ≡ true → x < y
+  fewer-lt within a out here =
+      let union : bitOr x y ≡ y = same-set 64 (bitOr x y) y (or-lt 64 x y hx hy) hy (λ t l. mem-union x y t ∙ both t) in
+      let less : x ≤ y = subst (λ (n : ℕ). x ≤ n) union (union-le x y) in
+      let other : x ≢ y = λ e. clash here (ap (λ (n : ℕ). mem n a) (sym e) ∙ out) in
+      omega arith
+    where
+      both : (t : ℕ) → (mem x t || mem y t) ≡ mem y t
+      both t = bool-cases (mem x t) (λ e. rw e (sym (within t e))) (λ e. rw e)
+
+  -- two sets that share nothing are added
+  pub apart-sum : ((k : ℕ) → (mem x k && mem y k) ≡ false) → bitOr x y ≡ x + y
+  apart-sum h =
+      or-disjoint x y (same-set 64 (bitAnd x y) 0 (and-lt 64 x y hx hy) (pow-pos 64) (λ t l. mem-both x y t ∙ h t ∙ sym (mem-empty t)))
 
 -- ---- the counts: `count_ones` and `trailing_zeros` of a set
 
@@ -137,6 +205,20 @@ trailing-first (suc n) x =
     ∙ digit-first (x % 2) (firstBelow n (λ t. mem x (suc t))) (mod-lt x two-pos)
     ∙ ap (λ (b : Bool). cond b 0 (suc (firstBelow n (λ t. mem x (suc t))))) (lowest-digit x)
 
+-- where one below n passes, the lowest one passes
+first-in : (n : ℕ) (f : ℕ → Bool) (i : ℕ) → i < n → f i ≡ true → f (firstBelow n f) ≡ true
+unfolding firstBelow
+first-in zero f i l h = absurd (not-suc-le-zero l)
+first-in (suc n) f zero l h = rw h h
+first-in (suc n) f (suc i) l h = bool-cases (f zero) (λ e. rw e e) (λ e. rw e (first-in n (λ k. f (suc k)) i (le-of-suc-le-suc l) h))
+
+-- the lowest of a set that is not empty is in it
+pub lowest-in : (x : ℕ) → x < 2 ^ 64 → x ≢ 0 → mem x (firstBelow mostTransactions (mem x)) ≡ true
+lowest-in x h e =
+    bool-cases (anyBelow mostTransactions (mem x))
+    (λ some. let r = any-elim mostTransactions (mem x) some in first-in mostTransactions (mem x) (r .0) (r .1) (r .2))
+    (λ none. absurd (e (same-set mostTransactions x 0 h (pow-pos 64) (λ t l. off-any mostTransactions (mem x) none t l ∙ sym (mem-empty t)))))
+
 -- ---- the set of those of which a test holds
 
 pub set-of-none : (f : ℕ → Bool) → setOf 0 f ≡ 0
@@ -146,9 +228,6 @@ set-of-none f = refl
 pub set-of-more : (n : ℕ) (f : ℕ → Bool) → setOf (n + 1) f ≡ cond (f n) (inserted (setOf n f) n) (setOf n f)
 unfolding setOf
 set-of-more n f = rw add-one refl
-
-pub mem-inserted : (x k t : ℕ) → k < mostTransactions → mem (inserted x k) t ≡ (mem x t || eqb t k)
-mem-inserted x k t h = ap (λ (y : ℕ). mem y t) (inserted-in x k h) ∙ mem-insert x k t
 
 -- its members
 pub mem-set-of : (n : ℕ) (f : ℕ → Bool) (t : ℕ) → n ≤ mostTransactions → mem (setOf n f) t ≡ (ltb t n && f t)

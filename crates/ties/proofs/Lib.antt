@@ -2,5 +2,6 @@
 pub mod OpsLaws
 pub mod TieLaws
 pub mod TableLaws
+pub mod VisitLaws
 pub mod RingLaws
 pub mod Promises

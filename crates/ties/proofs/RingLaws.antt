@@ -1,19 +1,18 @@
--- Rings: t is on one exactly when following ties leads from it back to it, and working outward by a table finds out.
-use Prim.Native.Nat.{ℕ, _≤_, _<_}
+-- Rings: t is on one exactly when following ties leads from it back to it, and working outward from t finds out.
+use Prim.Native.Nat.{ℕ, _≤_}
 use native.Mathlib.Omega.{arith}
-use mathlib.Core.Path.{_≡_, sym, ap, _∙_, subst}
-use mathlib.Core.Bool.{Bool, true, false}
-use mathlib.Core.List.{List}
-use Rattle.laws.proofs.Bools.{together, is-not, clash}
+use mathlib.Core.Path.{_≡_, sym, ap, _∙_}
+use mathlib.Core.Bool.{true, false}
+use Rattle.laws.proofs.Bools.{is-not, clash}
 use Rattle.terms.specs.Limits.{mostTransactions}
-use Rattle.sets.specs.Reach.{Leads, at}
+use Rattle.sets.specs.Reach.{Leads}
 use Rattle.sets.specs.Sets.{mem}
 use Rattle.sets.proofs.ReachLaws.{leads-more, computed-leads, leads-computed, last-step}
-use Rattle.sets.proofs.OutwardLaws.{Widens, Good, good-end}
+use Rattle.sets.proofs.SetLaws.{mem-empty}
+use Rattle.sets.proofs.OutwardLaws.{Outward, outward-closed, outward-back}
 use Rattle.ties.specs.declared.Ops.{Ops}
-use Rattle.ties.specs.Ties.{before, preceded, pairsOf, onRing}
+use Rattle.ties.specs.Ties.{before, preceded, onRing}
 use Rattle.ties.proofs.TieLaws.{before-small, before-among, unpreceded}
-use Rattle.ties.proofs.TableLaws.{pairs-at}
 
 module _ (ops : Ops) (t : ℕ) where
   pub ring-leads : onRing ops t ≡ true → Leads (before ops) t t
@@ -36,13 +35,11 @@ module _ (ops : Ops) (t : ℕ) where
   pub ring-late : mostTransactions ≤ t → onRing ops t ≡ false
   ring-late h = ring-free (λ a. is-not (before ops a t) (λ e. omega (arith, before-small ops a t e)))
 
-  -- t is in what it leads to exactly when it is on a ring
-  pub ring-end : (table : List (List Bool)) → table ≡ pairsOf ops
-      → (x : ℕ) → t < mostTransactions → Good (at table) t x → Widens (at table) x x → mem x t ≡ onRing ops t
-  ring-end table e x l g w =
-      let same : at table ≡ before ops = ap at e ∙ pairs-at ops in
-      let ends =
-      good-end (before ops) t (before-small ops) x
-      (subst (λ (R : ℕ → ℕ → Bool). Good R t x) same g) (subst (λ (R : ℕ → ℕ → Bool). Widens R x x) same w) t l
-      in
-      together (mem x t) (onRing ops t) (λ h. leads-ring (ends .0 h)) (λ h. ends .1 (ring-leads h))
+  -- working outward, with nothing left to visit
+  pub ring-none : (x w : ℕ) → Outward (before ops) t x w → w ≡ 0 → onRing ops t ≡ false
+  ring-none x w o e =
+      is-not (onRing ops t) (λ h. outward-closed (before ops) t x w o (λ k. ap (λ (n : ℕ). mem n k) e ∙ mem-empty k) (ring-leads h))
+
+  -- one to visit stands before t
+  pub ring-met : (x w : ℕ) → Outward (before ops) t x w → (a f : ℕ) → mem w a ≡ true → ((k : ℕ) → mem f k ≡ before ops a k) → mem f t ≡ true → onRing ops t ≡ true
+  ring-met x w o a f here found h = leads-ring (outward-back (before ops) t x w o a f here found h)

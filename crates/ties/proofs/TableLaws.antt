@@ -1,20 +1,17 @@
--- The table of pairs, as it is filled tie by tie, and a row of it as a set.
-use Prim.Native.Nat.{ℕ, _+_, _<_}
-use mathlib.Core.Path.{_≡_, refl, sym, ap, ap₂, _∙_, fun-ext}
+-- The table of pairs, as it is filled tie by tie.
+use Prim.Native.Nat.{ℕ, _+_}
+use mathlib.Core.Path.{_≡_, refl, sym, ap, _∙_}
 use mathlib.Core.Bool.{Bool, true, false, _&&_, _||_, or-false, or-assoc}
-use mathlib.Core.List.{List, []}
+use mathlib.Core.List.{[]}
 use lib.Dec.{eqb}
 use lib.ListN.{getD, set, replicate}
 use Rattle.laws.specs.Index.{anyBelow, tabulate, grid}
-use Rattle.laws.proofs.IndexLaws.{any-none, any-more, grid-same, grid-set, grid-at}
+use Rattle.laws.proofs.IndexLaws.{any-none, any-more, grid-same, grid-set}
 use Rattle.terms.specs.Limits.{mostTransactions}
-use Rattle.sets.specs.Reach.{at}
-use Rattle.sets.specs.Sets.{mem, inserted}
-use Rattle.sets.proofs.SetLaws.{mem-insert, inserted-in}
 use Rattle.ties.specs.declared.Ops.{Ops}
 use Rattle.ties.specs.Operations.{opAt, size}
 use Rattle.ties.specs.Ties.{counts, edge, before, pairsOf}
-use Rattle.ties.proofs.TieLaws.{counts-small, before-among}
+use Rattle.ties.proofs.TieLaws.{counts-small}
 
 -- by a tie whose later operation is one of the first n
 unfoldable pub beforeBy : Ops → ℕ → ℕ → ℕ → Bool
@@ -65,26 +62,3 @@ module _ (ops : Ops) (j : ℕ) where
     -- it does not count
     pub into-skip : counts (opAt ops i) (opAt ops j) j ≡ false → grid mostTransactions (into ops j i) ≡ grid mostTransactions (into ops j (i + 1))
     into-skip h = grid-same mostTransactions (into ops j i) (into ops j (i + 1)) (λ a b. sym (or-false (into ops j i a b)) ∙ more h a b)
-
--- the table read back
-pub pairs-at : (ops : Ops) → at (pairsOf ops) ≡ before ops
-unfolding pairsOf
-pairs-at ops = fun-ext (λ a. fun-ext (λ b. grid-at mostTransactions (before ops) a b ∙ before-among ops a b))
-
--- ---- the set of a row, place by place
-
--- k is one of the first t places at which the row is true
-abbrev pub chosen : List Bool → ℕ → ℕ → Bool
-chosen row t k = anyBelow t (λ b. getD row b false && eqb k b)
-
-module _ (row : List Bool) (x t : ℕ) (h : (k : ℕ) → mem x k ≡ chosen row t k) where
-  pub row-in : t < mostTransactions → getD row t false ≡ true → (k : ℕ) → mem (inserted x t) k ≡ chosen row (t + 1) k
-  row-in l e k =
-      ap (λ (s : ℕ). mem s k) (inserted-in x t l)
-      ∙ mem-insert x t k
-      ∙ ap₂ (λ (u v : Bool). u || (v && eqb k t)) (h k) (sym e)
-      ∙ sym (any-more t (λ b. getD row b false && eqb k b))
-
-  pub row-out : getD row t false ≡ false → (k : ℕ) → mem x k ≡ chosen row (t + 1) k
-  row-out e k =
-      sym (or-false (mem x k)) ∙ ap₂ (λ (u v : Bool). u || (v && eqb k t)) (h k) (sym e) ∙ sym (any-more t (λ b. getD row b false && eqb k b))

@@ -1,12 +1,9 @@
 // Accepted operations, how they end and change hands, and the ties between them.
 use terms::Book;
 ghost use mathlib.Core.Path.{_≡_};
-ghost use Prim.Native.Nat.{ℕ, _+_, _≤_, _<_};
+ghost use Prim.Native.Nat.{_+_, _≤_, _<_};
 ghost use Rattle.laws.specs.Index.{anyBelow};
-ghost use mathlib.Core.Bool.{false};
-ghost use lib.ListN.{getD};
 ghost use Rattle.terms.specs.Limits.{mostTransactions};
-ghost use Rattle.sets.specs.Sets.{mem};
 ghost use Rattle.ties.specs.Operations.{isWrite, isAborted, isActive, isCommitted, mostOperations, noOps, size, made, givenTo, given, endedAlone, endedOne, endedBy, endedOps};
 ghost use Rattle.ties.specs.Ties.{conflict, tiedTo, tied, counts, before, pairsOf, preceded, onRing, readBy, dirties, dirtyAt, dirty, waitsFor, mustWait};
 
@@ -336,7 +333,47 @@ impl Ops {
         false
     }
 
-    // Whether following ties leads from t back to t: outward from t until nothing new is reached.
+    // Whether following ties leads from t back to t: outward from t, each that is reached visited once, until t is met or none is left.
+    fn leads_back(self, t: usize) -> bool
+        requires { ⌜ t < mostTransactions ⌝ }
+        ensures { λ r. ⌜ r ≡ onRing self t ⌝ }
+    {
+        let n = self.size();
+        let mut reached: u64 = 0;
+        let mut waiting = sets::with_member(0, t);
+        while waiting != 0 {
+            let a = sets::lowest(waiting);
+            // Those that a stands before.
+            let mut found: u64 = 0;
+            let mut i: usize = 0;
+            while i < n {
+                let p = self.all[i];
+                let by = p.responsible as usize;
+                if by == a {
+                    let mut j = i + 1;
+                    while j < n {
+                        let q = self.all[j];
+                        if p.counts_with(q, j) {
+                            let b = q.responsible as usize;
+                            found = sets::with_member(found, b);
+                        }
+                        j += 1;
+                    }
+                }
+                i += 1;
+            }
+            if sets::member(found, t) {
+                return true;
+            }
+            let new = sets::without(found, reached);
+            let left = sets::without_member(waiting, a);
+            reached = reached | new;
+            waiting = left | new;
+        }
+        false
+    }
+
+    // Whether t is on a ring.
     pub fn on_ring(self, t: usize) -> bool
         ensures { λ r. ⌜ r ≡ onRing self t ⌝ }
     {
@@ -346,25 +383,7 @@ impl Ops {
         if !self.preceded(t) {
             return false;
         }
-        let table = self.pairs();
-        let row = table[t];
-        let mut reached = row_set(row);
-        loop {
-            let mut next = reached;
-            let mut a: usize = 0;
-            while a < Book::TRANSACTIONS {
-                if sets::member(reached, a) {
-                    let row = table[a];
-                    let more = row_set(row);
-                    next = next | more;
-                }
-                a += 1;
-            }
-            if next == reached {
-                return sets::member(reached, t);
-            }
-            reached = next;
-        }
+        self.leads_back(t)
     }
 
     // Whether one of `n` operations, from number `first` on, is a read that t answers for and saw a write that is not clean for t.
@@ -424,19 +443,4 @@ impl Ops {
         }
         false
     }
-}
-
-// The set of the places at which a row is true.
-fn row_set(row: [bool; Book::TRANSACTIONS]) -> u64
-    ensures { λ r. ⌜ ((k : ℕ) → k < mostTransactions → mem r k ≡ getD row k false) ⌝ }
-{
-    let mut set: u64 = 0;
-    let mut t: usize = 0;
-    while t < Book::TRANSACTIONS {
-        if row[t] {
-            set = sets::with_member(set, t);
-        }
-        t += 1;
-    }
-    set
 }
