@@ -43,7 +43,8 @@ enum saga_refusal {
   SAGA_MUST_WAIT = 17,       /* undo must wait */
   SAGA_FULL = 18,            /* 256 operations accepted already */
   SAGA_NO_ROOM = 19,         /* lent room too small */
-  SAGA_ALREADY_ENDED = 20    /* operation already ended */
+  SAGA_ALREADY_ENDED = 20,   /* operation already ended */
+  SAGA_NEVER_MOVES = 21      /* tables that can never move */
 };
 
 /* The answer of every function that can refuse: always the same four numbers. */

@@ -6,6 +6,7 @@ use crate::draft::encode_field;
 use crate::noise;
 use crate::random::Random;
 use crate::story::{self, Story};
+use crate::stuck;
 
 /// A book and the kind of book it was meant to be.
 #[derive(Clone, Debug, PartialEq, Eq)]
@@ -17,7 +18,7 @@ pub struct Made {
 type Maker = fn(&mut Random) -> Made;
 
 /// How often each kind is made, out of the sum of all.
-const MAKERS: [(usize, Maker); 19] = [
+const MAKERS: [(usize, Maker); 22] = [
     (170, deep),
     (20, full),
     (110, strayed),
@@ -34,6 +35,9 @@ const MAKERS: [(usize, Maker); 19] = [
     (25, damage::deleted),
     (25, damage::inserted),
     (25, damage::swapped),
+    (60, stuck::never_moving),
+    (30, stuck::hardly_moving),
+    (20, stuck::wrong_before),
     (60, noise::noise),
     (5, noise::empty),
     (5, shortest),
@@ -139,6 +143,8 @@ fn good_fields(random: &mut Random) -> Vec<u16> {
             let number = random.pick(&[8, 9, 10, 11, 12, 13, 14, 15, 16, 17, 18, 20]);
             aim::story_aimed_at(random, number)
         }
+        5 => Some(stuck::never_moving_story(random).0),
+        6 => Some(stuck::hardly_moving_story(random)),
         _ => None,
     };
     match story {
@@ -192,7 +198,8 @@ fn long_list(random: &mut Random) -> Vec<u16> {
 #[cfg(test)]
 mod tests {
     use super::*;
-    use crate::draft::encode;
+    use crate::draft::{encode, Draft};
+    use crate::model::can_never_move;
     use std::collections::HashMap;
 
     const BOOKS: u64 = 3000;
@@ -237,6 +244,11 @@ mod tests {
             "too many transactions at a saga" => Some(5),
             "too many transactions at the plain ones" => Some(5),
             "dependency" => Some(6),
+            "never moving" => Some(21),
+            "never moving but torn" => Some(2),
+            "never moving but for a bad number" => Some(3),
+            "never moving but for a bad entry" => Some(6),
+            "hardly moving" => Some(0),
             "bad event code" => Some(7),
             aimed => aimed.strip_prefix("aimed at ")?.parse().ok(),
         }
@@ -261,7 +273,7 @@ mod tests {
         }
         let of_long_ones = |kind: &str| kind.starts_with("too long") || kind.starts_with("longest");
         let known = kinds.keys().filter(|kind| !of_long_ones(kind)).count();
-        assert_eq!(known, 57);
+        assert_eq!(known, 66);
     }
 
     #[test]
@@ -274,7 +286,7 @@ mod tests {
 
     #[test]
     fn field_lists_are_written_and_refused_in_many_ways() {
-        let mut numbers = [0; 21];
+        let mut numbers = [0; 22];
         let mut room = vec![0; 65_536];
         for index in 0..BOOKS {
             let written = second::write(&field_list(5, index), &mut room);
@@ -282,7 +294,7 @@ mod tests {
             numbers[usize::from(number)] += 1;
         }
         // Writing knows no 3, and the room is never too small here.
-        for number in (0..=20).filter(|number| ![3, 19].contains(number)) {
+        for number in (0..=21).filter(|number| ![3, 19].contains(number)) {
             assert!(numbers[number] > 0, "{number}");
         }
     }
@@ -306,6 +318,25 @@ mod tests {
                 }
             }
         }
+    }
+
+    #[test]
+    fn the_old_way_answers_otherwise_only_where_21_is_given() {
+        let mut never_moving = 0;
+        for index in 0..BOOKS {
+            let bytes = book(9, index).bytes;
+            let old_opening = second::opening_old(&bytes);
+            let tables = Draft::of_book(old_opening).map(|draft| draft.tables);
+            if tables.is_some_and(|tables| can_never_move(&tables)) {
+                assert_eq!(second::read(&bytes).number, 21);
+                assert!(second::read_old(&bytes).number != 21);
+                never_moving += 1;
+            } else {
+                assert_eq!(second::listing(&bytes), second::listing_old(&bytes));
+                assert_eq!(second::opening(&bytes), old_opening);
+            }
+        }
+        assert!(never_moving > 50);
     }
 
     #[test]

@@ -7,11 +7,12 @@ use std::fmt::Write;
 const MOST_ROOM: usize = 65_536;
 
 /// What is asked: a book to be read, or fields to be written, and the size of
-/// the lent room.
+/// the lent room; or a book to be read in the old way, which takes no room.
 #[derive(Clone, Debug, PartialEq, Eq)]
 pub enum Case {
     Book(Vec<u8>, usize),
     Fields(Vec<u16>, usize),
+    OldBook(Vec<u8>),
 }
 
 impl Case {
@@ -19,18 +20,20 @@ impl Case {
         match self {
             Case::Book(..) => b'b',
             Case::Fields(..) => b'w',
+            Case::OldBook(..) => b'o',
         }
     }
 
     fn room(&self) -> usize {
         match self {
             Case::Book(_, room) | Case::Fields(_, room) => *room,
+            Case::OldBook(_) => 0,
         }
     }
 
     fn bytes(&self) -> Vec<u8> {
         match self {
-            Case::Book(book, _) => book.clone(),
+            Case::Book(book, _) | Case::OldBook(book) => book.clone(),
             Case::Fields(fields, _) => fields.iter().flat_map(|f| f.to_le_bytes()).collect(),
         }
     }
@@ -40,6 +43,7 @@ impl Case {
         match self {
             Case::Book(book, room) => book_answer(book, *room),
             Case::Fields(fields, room) => write_answer(fields, *room),
+            Case::OldBook(book) => old_book_answer(book),
         }
     }
 }
@@ -75,28 +79,43 @@ fn refused_line(refused: second::Refused) -> String {
     )
 }
 
+const PUT: &str = "a text takes every line";
+
 fn book_answer(book: &[u8], room: usize) -> Vec<u8> {
     let mut text = second::listing(book);
-    let put = "a text takes every line";
-    writeln!(text, "opening {}", second::opening(book).len()).expect(put);
-    let report = second::report(&second::read(book));
-    writeln!(text, "active {} lowest {}", report.active, report.lowest).expect(put);
-    for (earlier, row) in report.pairs.iter().enumerate() {
-        for later in (0..64).filter(|later| row >> later & 1 == 1) {
-            writeln!(text, "{earlier} {later}").expect(put);
-        }
-    }
+    put_opening(&mut text, second::opening(book));
+    put_report(&mut text, &second::report(&second::read(book)));
     let mut fields = vec![0; room];
     match second::unpack(book, &mut fields) {
         Ok(count) => {
-            writeln!(text, "unpacked {count}").expect(put);
+            writeln!(text, "unpacked {count}").expect(PUT);
             for field in &fields[..count] {
-                writeln!(text, "{field}").expect(put);
+                writeln!(text, "{field}").expect(PUT);
             }
         }
         Err(refused) => text += &refused_line(refused),
     }
     text.into_bytes()
+}
+
+fn old_book_answer(book: &[u8]) -> Vec<u8> {
+    let mut text = second::listing_old(book);
+    put_opening(&mut text, second::opening_old(book));
+    put_report(&mut text, &second::report(&second::read_old(book)));
+    text.into_bytes()
+}
+
+fn put_opening(text: &mut String, opening: &[u8]) {
+    writeln!(text, "opening {}", opening.len()).expect(PUT);
+}
+
+fn put_report(text: &mut String, report: &second::Report) {
+    writeln!(text, "active {} lowest {}", report.active, report.lowest).expect(PUT);
+    for (earlier, row) in report.pairs.iter().enumerate() {
+        for later in (0..64).filter(|later| row >> later & 1 == 1) {
+            writeln!(text, "{earlier} {later}").expect(PUT);
+        }
+    }
 }
 
 fn write_answer(fields: &[u16], room: usize) -> Vec<u8> {
@@ -113,13 +132,18 @@ fn write_answer(fields: &[u16], room: usize) -> Vec<u8> {
 }
 
 /// The cases of a seed: books, and a list of fields after every fourth. Every
-/// third has a room that is about as large as needed.
+/// third has a room that is about as large as needed. Books whose tables can
+/// never move, and every eighth, are asked in the old way too.
 pub fn made(seed: u64, count: u64) -> Vec<Case> {
     let mut cases = Vec::new();
     for index in 0..count {
         let bytes = book(seed, index).bytes;
         let room = room(index, bytes.len());
-        cases.push(Case::Book(bytes, room));
+        let never_moves = second::read(&bytes).number == second::refusal::NEVER_MOVES;
+        cases.push(Case::Book(bytes.clone(), room));
+        if never_moves || index.is_multiple_of(8) {
+            cases.push(Case::OldBook(bytes));
+        }
         if index.is_multiple_of(4) {
             let fields = field_list(seed, index);
             let room = self::room(index, fields.len());
@@ -150,19 +174,20 @@ pub fn fixed(text: &str) -> Result<Vec<Case>, String> {
 
 fn fixed_case(line: &str) -> Option<Case> {
     let (line, room) = match line.split_once('/') {
-        Some((front, size)) => (front, size.trim().parse().ok()?),
-        None => (line, MOST_ROOM),
+        Some((front, size)) => (front, Some(size.trim().parse().ok()?)),
+        None => (line, None),
     };
     let mut words = line.split_whitespace();
-    match words.next()? {
-        "b" => Some(Case::Book(
-            numbers(words, |word| u8::from_str_radix(word, 16).ok())?,
-            room,
-        )),
-        "w" => Some(Case::Fields(
+    let letter = words.next()?;
+    let byte = |word: &str| u8::from_str_radix(word, 16).ok();
+    let lent = room.unwrap_or(MOST_ROOM);
+    match (letter, room) {
+        ("b", _) => Some(Case::Book(numbers(words, byte)?, lent)),
+        ("w", _) => Some(Case::Fields(
             numbers(words, |word| word.parse().ok())?,
-            room,
+            lent,
         )),
+        ("o", None) => Some(Case::OldBook(numbers(words, byte)?)),
         _ => None,
     }
 }
@@ -193,12 +218,13 @@ mod tests {
 
     #[test]
     fn a_line_of_the_fixed_cases() {
-        let cases = fixed("# not this\n\nb 01 x2 0A /3\nw 7 300\n").unwrap();
+        let cases = fixed("# not this\n\nb 01 x2 0A /3\nw 7 300\no 01 x2 FF\n").unwrap();
         assert_eq!(
             cases,
             [
                 Case::Book(vec![1, 10, 10], 3),
-                Case::Fields(vec![7, 300], MOST_ROOM)
+                Case::Fields(vec![7, 300], MOST_ROOM),
+                Case::OldBook(vec![1, 255, 255])
             ]
         );
     }
@@ -206,13 +232,17 @@ mod tests {
     #[test]
     fn the_fixed_cases_are_all_read() {
         let text = include_str!("../fixed.txt");
-        let lines = text.lines().filter(|line| line.starts_with(['b', 'w']));
+        let lines = text
+            .lines()
+            .filter(|line| line.starts_with(['b', 'w', 'o']));
         assert_eq!(fixed(text).map(|cases| cases.len()), Ok(lines.count()));
     }
 
     #[test]
     fn a_bad_line_is_named() {
-        for line in ["c 01", "b 1G", "w 65536", "b 01 /x", "b xx 01"] {
+        for line in [
+            "c 01", "b 1G", "w 65536", "b 01 /x", "b xx 01", "o 1G", "o 01 /3",
+        ] {
             let text = format!("b 01\n{line}\n");
             assert_eq!(fixed(&text), Err(format!("line 2: {line}")));
         }
@@ -220,11 +250,16 @@ mod tests {
 
     #[test]
     fn the_question_has_every_length() {
-        let cases = [Case::Book(vec![9], 2), Case::Fields(vec![258], 65_536)];
+        let cases = [
+            Case::Book(vec![9], 2),
+            Case::Fields(vec![258], 65_536),
+            Case::OldBook(vec![7, 8]),
+        ];
         let asked = [
-            &[2, 0, 0][..],
+            &[3, 0, 0][..],
             &[b'b', 2, 0, 0, 1, 0, 0, 9],
             &[b'w', 0, 0, 1, 2, 0, 0, 2, 1],
+            &[b'o', 0, 0, 0, 2, 0, 0, 7, 8],
         ];
         assert_eq!(question(&cases), asked.concat());
     }
@@ -236,5 +271,35 @@ mod tests {
         assert_eq!(book.answer(), answer.as_bytes());
         let writing = Case::Fields(vec![1, 0, 0, 0, 0], 4);
         assert_eq!(writing.answer(), b"refused 19 0 0\n");
+    }
+
+    #[test]
+    fn answers_of_a_book_that_never_moves() {
+        // Plain 0 and 1 wait for each other, 2 begins.
+        let bytes = vec![1, 0, 3, 0, 2, 0, 1, 4, 1, 0, 4, 1, 2];
+        let book = Case::Book(bytes.clone(), 20);
+        let answer = "book refused 21 0 4\nopening 0\nactive 0 lowest 64\nrefused 21 0 4\n";
+        assert_eq!(book.answer(), answer.as_bytes());
+        let old = Case::OldBook(bytes);
+        let answer = "book accepted 1\nt 0 idle\nt 1 idle\nt 2 active\n\
+                      opening 13\nactive 1 lowest 2\n";
+        assert_eq!(old.answer(), answer.as_bytes());
+    }
+
+    #[test]
+    fn books_that_never_move_are_asked_in_the_old_way_too() {
+        let cases = made(1, 400);
+        let mut old = cases.iter().filter(|case| matches!(case, Case::OldBook(_)));
+        let mut never_moving = 0;
+        for (index, case) in cases.iter().enumerate() {
+            let Case::Book(bytes, _) = case else { continue };
+            if second::read(bytes).number == 21 {
+                assert_eq!(cases[index + 1], Case::OldBook(bytes.clone()));
+                never_moving += 1;
+            }
+        }
+        assert!(never_moving > 5 && old.clone().count() >= 50);
+        let first = book(1, 0).bytes;
+        assert_eq!(old.next(), Some(&Case::OldBook(first)));
     }
 }

@@ -5,7 +5,7 @@ use crate::singles::Singles;
 use std::collections::BTreeMap;
 use std::fmt;
 
-const HIGHEST_OF_READING: usize = 20;
+const HIGHEST_OF_READING: usize = 21;
 /// The lent room is too small: reading never comes to that.
 const NEVER_OF_READING: usize = 19;
 /// So many books must bring up every refusal.
@@ -18,6 +18,8 @@ pub struct Counts {
     events: u64,
     kinds: BTreeMap<&'static str, u64>,
     numbers: [u64; HIGHEST_OF_READING + 1],
+    /// What reading in the old way comes to, for books refused by 21.
+    old_numbers: BTreeMap<u8, u64>,
     singles: Singles,
 }
 
@@ -35,6 +37,10 @@ impl Counts {
         *self.kinds.entry(made.kind).or_default() += 1;
         self.numbers[usize::from(reading.number)] += 1;
         self.singles.count(&made.bytes, &reading);
+        if reading.number == second::refusal::NEVER_MOVES {
+            let old_number = second::read_old(&made.bytes).number;
+            *self.old_numbers.entry(old_number).or_default() += 1;
+        }
     }
 
     /// The refusals that never came up though enough books were counted.
@@ -59,6 +65,12 @@ impl fmt::Display for Counts {
         for number in of_reading() {
             writeln!(output, "read {:6} refused {number}", self.numbers[number])?;
         }
+        for (number, count) in &self.old_numbers {
+            match number {
+                0 => writeln!(output, "old  {count:6} accepted")?,
+                _ => writeln!(output, "old  {count:6} refused {number}")?,
+            }
+        }
         write!(output, "{}", self.singles)
     }
 }
@@ -76,6 +88,9 @@ mod tests {
                 counts.count(&book(seed, index));
             }
             assert_eq!(counts.missing(), [0; 0]);
+            for number in [0, 14] {
+                assert!(counts.old_numbers.get(&number) > Some(&10), "{number}");
+            }
         }
     }
 
@@ -91,7 +106,7 @@ mod tests {
         }
         assert_eq!(counts.missing(), [0; 0], "too few to tell");
         counts.count(&empty);
-        let all_but_2 = [1].into_iter().chain(3..=18).chain([20]);
+        let all_but_2 = [1].into_iter().chain(3..=18).chain([20, 21]);
         assert_eq!(counts.missing(), all_but_2.collect::<Vec<_>>());
         let text = counts.to_string();
         assert!(text.contains("kind   2000 empty\n"));

@@ -12,4 +12,5 @@ mod noise;
 mod random;
 mod singles;
 mod story;
+mod stuck;
 mod tables;

@@ -536,6 +536,17 @@ impl Model {
     }
 }
 
+/// Whether entries of kinds 4 to 7 lead from a transaction back to itself.
+pub fn can_never_move(tables: &Tables) -> bool {
+    let mut waits_for = [0; 64];
+    for [dependent, base, kind] in &tables.dependencies {
+        if (4..=7).contains(kind) {
+            waits_for[usize::from(*dependent)] |= 1 << base;
+        }
+    }
+    (0..64).any(|t| leads_back(&waits_for, t))
+}
+
 /// Whether a dependency of a kind bars a begin, given the phase of its base.
 fn bars_begin((base, kind): (Phase, u16)) -> bool {
     match kind {
@@ -557,7 +568,7 @@ fn bars_commit((base, kind): (Phase, u16)) -> bool {
     }
 }
 
-/// Whether following the pairs leads from `t` back to it.
+/// Whether following the pairs, by one or more of them, leads from `t` back to it.
 fn leads_back(pairs: &[u64; 64], t: usize) -> bool {
     let mut reached = pairs[t];
     loop {

@@ -3,6 +3,7 @@
 use crate::books::Made;
 use crate::draft::{encode, Tables};
 use crate::random::Random;
+use crate::stuck::never_moving_story;
 use crate::tables::good_tables;
 
 const MOST_BYTES: usize = 65_536;
@@ -74,12 +75,17 @@ fn pick_excess(random: &mut Random) -> usize {
     }
 }
 
-/// A good edition and noise, or tables and one event over and over.
+/// A good edition and noise, or tables, now and then such as can never move,
+/// and one event over and over.
 fn long_bytes(random: &mut Random, length: usize, kind: &'static str) -> (Vec<u8>, &'static str) {
     let bytes = if random.one_in(2) {
         [vec![1], noise_bytes(random, length - 1)].concat()
     } else {
-        let mut bytes = encode(&good_tables(random).fields());
+        let tables = match random.below(4) {
+            0 => never_moving_story(random).0.draft.tables,
+            _ => good_tables(random),
+        };
+        let mut bytes = encode(&tables.fields());
         let event = [random.within(1..=3) as u8, random.below(4) as u8];
         bytes.extend(event.into_iter().cycle().take(length - bytes.len()));
         bytes

@@ -47,6 +47,14 @@ impl Random {
         from[self.below(from.len())]
     }
 
+    /// The same things in any order.
+    pub fn shuffled<T>(&mut self, mut things: Vec<T>) -> Vec<T> {
+        for last in (1..things.len()).rev() {
+            things.swap(last, self.within(0..=last));
+        }
+        things
+    }
+
     /// An index into the weights, each as often as its weight says.
     pub fn weighted(&mut self, weights: impl Iterator<Item = usize> + Clone) -> usize {
         let mut left = self.below(weights.clone().sum());

@@ -374,6 +374,7 @@ pub fn strayed_story(random: &mut Random) -> Story {
 mod tests {
     use super::*;
     use crate::draft::encode;
+    use crate::stuck::never_moving_story;
 
     fn as_second_reads_it(event: Event) -> second::Event {
         match event {
@@ -405,7 +406,7 @@ mod tests {
     /// program others on the way, and compares what they say.
     fn walk(random: &mut Random, story: &Story) {
         let mut model = Model::new(&story.draft.tables);
-        let mut reading = second::read(&encode(&story.draft.tables.fields()));
+        let mut reading = second::read_old(&encode(&story.draft.tables.fields()));
         for event in &story.draft.events {
             for code in [1, 2, 2, 3, 4, 5, 6, 6, 7] {
                 let other = wild_event(random, &model, code);
@@ -433,6 +434,11 @@ mod tests {
         for index in 0..250 {
             let random = &mut Random::new(11, index);
             let story = strayed_story(random);
+            walk(random, &story);
+        }
+        for index in 0..50 {
+            let random = &mut Random::new(15, index);
+            let (story, _) = never_moving_story(random);
             walk(random, &story);
         }
         let full = (0..3).filter_map(|index| full_story(&mut Random::new(12, index), 30));

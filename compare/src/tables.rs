@@ -2,9 +2,12 @@
 
 use crate::draft::Tables;
 use crate::random::Random;
+use std::ops::RangeInclusive;
 
 const MOST_TRANSACTIONS: usize = 64;
-const MOST_DEPENDENCIES: usize = 128;
+pub const MOST_DEPENDENCIES: usize = 128;
+/// Kinds from this one to 7 bar a begin, lower ones a commit.
+pub const LOWEST_BEGIN_KIND: u16 = 4;
 
 /// Tables that are taken.
 pub fn good_tables(random: &mut Random) -> Tables {
@@ -50,34 +53,52 @@ fn saga_steps(random: &mut Random) -> Vec<u16> {
     }
 }
 
-/// Declares up to so many entries, all of them allowed and rising.
+/// Declares up to so many entries, all of them allowed and rising. Those of
+/// kinds 4 to 7 follow one order of the transactions, so they lead nowhere back.
 fn declare_dependencies(random: &mut Random, tables: &mut Tables, entries: usize) {
-    let sagas = saga_numbers(tables);
-    let plain = plain_numbers(tables);
-    let all = [sagas, plain.clone()].concat();
-    if all.len() < 2 {
+    let order = random.shuffled(depending_numbers(tables));
+    if order.len() < 2 {
         return;
     }
     // Some are drawn twice, so this may fall short of the number asked for.
     for _ in 0..2 * entries {
-        let dependent = random.pick(&all);
-        let base = random.pick(&all);
-        let kinds = if plain.contains(&dependent) {
-            1..=7
-        } else {
-            4..=7
-        };
-        let kind = random.within(kinds) as u16;
-        if dependent != base {
-            tables.dependencies.push([dependent, base, kind]);
+        let (one, other) = (random.below(order.len()), random.below(order.len()));
+        if one == other {
+            continue;
         }
+        let kind = random.within(allowed_kinds(tables, order[one])) as u16;
+        let entry = if kind >= LOWEST_BEGIN_KIND {
+            [order[one.max(other)], order[one.min(other)], kind]
+        } else {
+            [order[one], order[other], kind]
+        };
+        tables.dependencies.push(entry);
     }
-    tables.dependencies.sort_unstable();
-    tables.dependencies.dedup();
+    put_in_order(tables);
     while tables.dependencies.len() > entries {
         let surplus = random.below(tables.dependencies.len());
         tables.dependencies.remove(surplus);
     }
+}
+
+/// Makes the entries rising, each of them once.
+pub fn put_in_order(tables: &mut Tables) {
+    tables.dependencies.sort_unstable();
+    tables.dependencies.dedup();
+}
+
+/// The kinds of entries in which the transaction may be the dependent.
+fn allowed_kinds(tables: &Tables, dependent: u16) -> RangeInclusive<usize> {
+    if plain_numbers(tables).contains(&dependent) {
+        1..=7
+    } else {
+        4..=7
+    }
+}
+
+/// The numbers of the transactions that may depend and be depended on.
+pub fn depending_numbers(tables: &Tables) -> Vec<u16> {
+    [saga_numbers(tables), plain_numbers(tables)].concat()
 }
 
 /// The numbers of the transactions S.

@@ -4,19 +4,27 @@ use crate::closing::{closing, outstanding};
 use crate::event::{ABORT, BEGIN};
 use crate::refusal;
 use crate::state::{Mark, Phase};
-use crate::{read, Reading};
+use crate::{read, read_old, Reading};
 
 /// The listing: whether the book is accepted, then the transactions, the
 /// operations and the sagas. After refused tables only the first line.
 pub fn listing(book: &[u8]) -> String {
-    let reading = read(book);
+    lines(&read(book))
+}
+
+/// The listing of a book that is read in the old way.
+pub fn listing_old(book: &[u8]) -> String {
+    lines(&read_old(book))
+}
+
+fn lines(reading: &Reading) -> String {
     let transactions = 0..reading.tables.transactions();
     let operations = 0..reading.state.operations();
     let sagas = 0..reading.tables.sagas().len();
-    std::iter::once(book_line(&reading))
-        .chain(transactions.map(|number| transaction_line(&reading, number)))
-        .chain(operations.map(|number| operation_line(&reading, number)))
-        .chain(sagas.map(|index| saga_line(&reading, index)))
+    std::iter::once(book_line(reading))
+        .chain(transactions.map(|number| transaction_line(reading, number)))
+        .chain(operations.map(|number| operation_line(reading, number)))
+        .chain(sagas.map(|index| saga_line(reading, index)))
         .collect()
 }
 

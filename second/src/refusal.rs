@@ -43,3 +43,5 @@ pub const OPERATIONS_USED_UP: u8 = 18;
 pub const ROOM_TOO_SMALL: u8 = 19;
 /// The operation that is to end alone has ended already.
 pub const ALREADY_ENDED: u8 = 20;
+/// Declared begin dependencies lead from a transaction back to itself.
+pub const NEVER_MOVES: u8 = 21;

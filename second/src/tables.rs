@@ -103,6 +103,16 @@ impl Kind {
     }
 }
 
+/// What becomes of tables that can never move: their begin dependencies lead
+/// from a transaction back to itself.
+#[derive(Clone, Copy, Debug, PartialEq, Eq)]
+pub enum NeverMoving {
+    /// They are refused.
+    Refused,
+    /// They are taken, as in the old way.
+    Taken,
+}
+
 /// A declared dependency of `dependent` on `base`. Entries are compared by
 /// dependent, then base, then kind.
 #[derive(Clone, Copy, Debug, PartialEq, Eq, PartialOrd, Ord)]
@@ -185,25 +195,66 @@ impl Tables {
 
     /// Reads tables that are empty so far up to the first event. Refused
     /// tables are empty again.
-    pub(crate) fn read(&mut self, fields: &mut impl Fields) -> Result<(), Stop> {
-        let outcome = self.read_entries(fields);
+    pub(crate) fn read(
+        &mut self,
+        fields: &mut impl Fields,
+        never_moving: NeverMoving,
+    ) -> Result<(), Stop> {
+        let outcome = self.read_entries(fields, never_moving);
         if outcome.is_err() {
             *self = Tables::EMPTY;
         }
         outcome
     }
 
-    fn read_entries(&mut self, fields: &mut impl Fields) -> Result<(), Stop> {
+    fn read_entries(
+        &mut self,
+        fields: &mut impl Fields,
+        never_moving: NeverMoving,
+    ) -> Result<(), Stop> {
         read_edition(fields)?;
         for _ in 0..read_count(fields, 0..=MOST_SAGAS)? {
             self.read_saga(fields)?;
         }
         self.read_plain_transactions(fields)?;
         self.objects = read_count(fields, 0..=MOST_OBJECTS)?;
+        let dependency_count = fields.place();
         for _ in 0..read_count(fields, 0..=MOST_DEPENDENCIES)? {
             self.read_dependency(fields)?;
         }
+        if never_moving == NeverMoving::Refused && self.can_never_move() {
+            return Err(Stop {
+                number: refusal::NEVER_MOVES,
+                place: dependency_count,
+            });
+        }
         Ok(())
+    }
+
+    /// Whether begin dependencies lead from some transaction back to itself.
+    /// The transactions that wait for none of those left are let go, over and
+    /// over; who is left in the end waits in a ring, or for one.
+    fn can_never_move(&self) -> bool {
+        let mut left = u64::MAX;
+        loop {
+            let waiting = self.waiting_for_one_of(left);
+            if waiting == left {
+                return left != 0;
+            }
+            left = waiting;
+        }
+    }
+
+    /// Those of these transactions with a begin dependency on another of them,
+    /// as bits.
+    fn waiting_for_one_of(&self, transactions: u64) -> u64 {
+        let entries = &self.dependencies[..self.dependency_count];
+        entries
+            .iter()
+            .filter(|entry| !entry.kind.bars_commit())
+            .filter(|entry| transactions >> entry.dependent & 1 == 1)
+            .filter(|entry| transactions >> entry.base & 1 == 1)
+            .fold(0, |waiting, entry| waiting | 1 << entry.dependent)
     }
 
     fn read_saga(&mut self, fields: &mut impl Fields) -> Result<(), Stop> {

@@ -105,6 +105,36 @@ fn opening() {
 }
 
 #[test]
+fn the_old_way() {
+    // Plain 0 and 1 wait for each other, 2 for nobody; 2 begins.
+    let book = [1, 0, 3, 0, 2, 0, 1, 4, 1, 0, 4, 1, 2];
+    answers(&["listing"], &book, "book refused 21 0 4\n");
+    answers(&["opening"], &book, "");
+    answers(&["pairs"], &book, "active 0 lowest 64\n");
+    answers(&["unpack", "0"], &book, "refused 21 0 4\n");
+    answers(
+        &["old-listing"],
+        &book,
+        "book accepted 1\nt 0 idle\nt 1 idle\nt 2 active\n",
+    );
+    let stuck = [&book[..], &[1, 0]].concat();
+    answers(
+        &["old-listing"],
+        &stuck,
+        "book refused 14 1 13\nt 0 idle\nt 1 idle\nt 2 active\n",
+    );
+    let output = run(&["old-opening"], &stuck);
+    assert!(output.status.success());
+    assert_eq!(output.stdout, book);
+    answers(&["old-listing"], &[], "book refused 2 0 0\n");
+    answers(&["old-opening"], &[9], "");
+    answers(&["old-listing"], &[1; 70_000], "book refused 1 0 0\n");
+    complains(&["old-unpack"], &book);
+    complains(&["old-write"], b"1 0 0 0 0");
+    complains(&["old-listing", "more"], &book);
+}
+
+#[test]
 fn unpack() {
     let lines = LISTED_FIELDS.replace(' ', "\n");
     let unpacked = format!("unpacked 24\n{lines}\n");

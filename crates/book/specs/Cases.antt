@@ -13,7 +13,7 @@ use Rattle.closing.specs.declared.NextStep.the-variants.{NoStep, ToBegin, ToCom
 use Rattle.book.specs.declared.Reading.{Reading}
 use Rattle.book.specs.declared.Outcome.{Outcome}
 use Rattle.book.specs.declared.Outcome.the-variants.{Wrote, Refuses}
-use Rattle.book.specs.Reading.{readingOf}
+use Rattle.book.specs.Reading.{readingOf, oldReadingOf}
 use Rattle.book.specs.Packing.{writeOutcome}
 
 -- ---- questions in bytes, and answers in document 01's numbers
@@ -101,7 +101,7 @@ pCases =
 abbrev pub PCasesHold : Type 0
 PCasesHold = map (λ (c : Case). answerTo (c .question)) pCases ≡ map (λ (c : Case). c .answer) pCases
 
--- ---- no line of the table of refusals is dead: for each number from 2 to 18, and for 20, a book that gets it
+-- ---- no line of the table of refusals is dead: for each number from 2 to 18, and for 20 and 21, a book that gets it
 
 -- a plain transaction, one object, no dependencies
 abbrev onePlain : List ℕ → List ℕ
@@ -110,6 +110,10 @@ onePlain events = 0x01 ∷ 0x00 ∷ 0x01 ∷ 0x01 ∷ 0x00 ∷ events
 -- two plain transactions, one object
 abbrev twoPlain : List ℕ → List ℕ
 twoPlain events = 0x01 ∷ 0x00 ∷ 0x02 ∷ 0x01 ∷ 0x00 ∷ events
+
+-- two plain transactions, of which 0 begins after 1, and 1 after 0
+abbrev waiting : List ℕ
+waiting = 0x01 ∷ 0x00 ∷ 0x02 ∷ 0x00 ∷ 0x02 ∷ 0x00 ∷ 0x01 ∷ 0x04 ∷ 0x01 ∷ 0x00 ∷ 0x04 ∷ []
 
 -- the same bytes n times
 unfoldable pub times : ℕ → List ℕ → List ℕ
@@ -153,6 +157,8 @@ refusedBooks =
     ∷ onePlain (0x01 ∷ 0x00 ∷ times 257 (0x04 ∷ 0x00 ∷ 0x00 ∷ 0x00 ∷ []))
     -- 20: an operation committed alone, and then aborted alone
     ∷ onePlain (0x01 ∷ 0x00 ∷ 0x04 ∷ 0x00 ∷ 0x00 ∷ 0x01 ∷ 0x06 ∷ 0x00 ∷ 0x00 ∷ 0x07 ∷ 0x00 ∷ 0x00 ∷ [])
+    -- 21: 0 begins after 1, and 1 after 0
+    ∷ waiting
     ∷ []
 
 abbrev pub outcomeNumber : Outcome → ℕ
@@ -165,5 +171,20 @@ nothingDeclared = 1 ∷ 0 ∷ 0 ∷ 0 ∷ 0 ∷ []
 
 pub record NoLineDead : Type 0 where
   pub by-books : map (λ (s : List ℕ). verdictNumber (readingOf ceiling1 s .answer)) refusedBooks
-      ≡ 2 ∷ 3 ∷ 4 ∷ 5 ∷ 6 ∷ 7 ∷ 8 ∷ 9 ∷ 10 ∷ 11 ∷ 12 ∷ 13 ∷ 14 ∷ 15 ∷ 16 ∷ 17 ∷ 18 ∷ 20 ∷ []
+      ≡ 2 ∷ 3 ∷ 4 ∷ 5 ∷ 6 ∷ 7 ∷ 8 ∷ 9 ∷ 10 ∷ 11 ∷ 12 ∷ 13 ∷ 14 ∷ 15 ∷ 16 ∷ 17 ∷ 18 ∷ 20 ∷ 21 ∷ []
   pub by-writing : outcomeNumber (writeOutcome ceiling1 nothingDeclared []) ≡ 19
+
+-- ---- tables that can never move, and tables that can
+
+-- number, events and place
+abbrev pub answerOf : Reading → List ℕ
+answerOf r = verdictNumber (r .answer) ∷ r .events ∷ r .place ∷ []
+
+pub record CircleCases : Type 0 where
+  -- 0 and 1 wait for each other: refused at the dependency count, and read as an old book
+  pub refused : answerOf (readingOf ceiling1 waiting) ≡ 21 ∷ 0 ∷ 4 ∷ []
+  pub as-old : answerOf (oldReadingOf ceiling1 waiting) ≡ 0 ∷ 0 ∷ 0 ∷ []
+  -- 0 waits for 1 by kind 5, 1 for 2 by kind 7, and 2 for 0 by kind 6: refused
+  pub through-others : answerOf (readingOf ceiling1 (0x01 ∷ 0x00 ∷ 0x03 ∷ 0x00 ∷ 0x03 ∷ 0x00 ∷ 0x01 ∷ 0x05 ∷ 0x01 ∷ 0x02 ∷ 0x07 ∷ 0x02 ∷ 0x00 ∷ 0x06 ∷ [])) ≡ 21 ∷ 0 ∷ 4 ∷ []
+  -- 0 begins after 1, and 1 doesn't commit when 0 is aborted, kind 3: accepted
+  pub not-by-kind-3 : answerOf (readingOf ceiling1 (0x01 ∷ 0x00 ∷ 0x02 ∷ 0x00 ∷ 0x02 ∷ 0x00 ∷ 0x01 ∷ 0x04 ∷ 0x01 ∷ 0x00 ∷ 0x03 ∷ [])) ≡ 0 ∷ 0 ∷ 0 ∷ []

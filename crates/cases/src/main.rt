@@ -1,8 +1,9 @@
 // Answers the cases on its standard input one after another, so that two programs can be held against each other.
 //
 // A case is a letter, the size of the lent room, a length, and that many bytes; sizes and lengths have three bytes, low byte first. 'b' is a
-// book: its listing, the length of its accepted opening, the report on its state, and its fields unpacked into the room. 'w' is a list of
-// fields, two bytes each, low byte first: what writing them into the room answers. It stops at the end of the input or where that is torn.
+// book: its listing, the length of its accepted opening, the report on its state, and its fields unpacked into the room. 'o' is an old book,
+// whose tables may be such as can never move: the same without its fields. 'w' is a list of fields, two bytes each, low byte first: what
+// writing them into the room answers. It stops at the end of the input or where that is torn.
 use book::Outcome;
 use book::Reading;
 use libc::STDIN_FILENO;
@@ -121,6 +122,14 @@ fn answer_book(bytes: &[u8], room: &mut [u16]) {
     unpack(bytes, room);
 }
 
+fn old_case(bytes: &[u8]) {
+    let reading = book::read_old(bytes);
+    say_listing(reading);
+    let opening = book::opening_old(bytes);
+    say_count(b"opening", opening.len());
+    say_report(reading);
+}
+
 fn answer_write(fields: &[u16], room: &mut [u8]) {
     match book::write(fields, room) {
         Outcome::Wrote(n) => {
@@ -184,6 +193,8 @@ fn write_case(bytes: &[u8], size: usize) {
 fn answer(letter: u8, bytes: &[u8], size: usize) {
     if letter == b'w' {
         write_case(bytes, size);
+    } else if letter == b'o' {
+        old_case(bytes);
     } else {
         book_case(bytes, size);
     }

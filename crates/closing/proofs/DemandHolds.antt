@@ -16,7 +16,7 @@ use Rattle.laws.proofs.HighestLaws.{highest-le, highest-same, sum-same}
 use Rattle.terms.specs.Limits.{mostSagas}
 use Rattle.terms.specs.declared.Verdict.the-variants.{Accepted}
 use Rattle.tables.specs.Accepted.{Well}
-use Rattle.tables.specs.Reading.{tablesOf}
+use Rattle.tables.specs.Reading.{tablesBy}
 use Rattle.tables.specs.Sorts.{firstOf, stepsOf}
 use Rattle.tables.specs.declared.Tables.{Tables}
 use Rattle.tables.proofs.AcceptedLaws.{accepted-well}
@@ -260,4 +260,4 @@ module _ (tables : Tables) (well : Well tables) (i : ℕ) (low : i < tables .sag
       }
 
 pub demand3 : Demand3
-demand3 cap s at e i low = demand (tablesOf cap s .tables) (accepted-well cap s at e) i low
+demand3 circles cap s at e i low = demand (tablesBy circles cap s .tables) (accepted-well circles cap s at e) i low

@@ -13,7 +13,7 @@ use denote.Ref.{now}
 use Rattle.laws.proofs.Bools.{and-off, and-on, not-on}
 use Rattle.laws.proofs.Decisions.{lt-or, same-or}
 use Rattle.tables.specs.Accepted.{Well}
-use Rattle.tables.specs.Reading.{tablesOf}
+use Rattle.tables.specs.Reading.{tablesBy}
 use Rattle.tables.specs.Sorts.{firstOf, stepsOf}
 use Rattle.tables.specs.declared.Tables.{Tables}
 use Rattle.tables.proofs.AcceptedLaws.{accepted-well}
@@ -180,9 +180,9 @@ module _ (tables : Tables) (well : Well tables) (s : State) (good : (i : ℕ) �
   close-each (suc k) h = close-more k (closeAll tables s k) h (close-each k (omega arith))
 
 pub closing-settles : ClosingSettles
-closing-settles cap book at e es =
-    let tables : Tables = tablesOf cap book .tables in
-    let well : Well tables = accepted-well cap book at e in
+closing-settles circles cap book at e es =
+    let tables : Tables = tablesBy circles cap book .tables in
+    let well : Well tables = accepted-well circles cap book at e in
     let good : (i : ℕ) → i < tables .sagas → Good tables i (reached tables es) =
     λ i low. good-run tables well i low es emptyState (good-start tables well i low) in
     let every = close-each tables well (reached tables es) good (tables .sagas) (omega arith) in

@@ -8,7 +8,8 @@ use mathlib.Core.List.{List, [], _∷_, _++_}
 use lib.Dec.{ltb, leb}
 use Rattle.terms.specs.declared.Verdict.the-variants.{Accepted}
 use Rattle.tables.specs.Sorts.{firstOf, stepsOf}
-use Rattle.tables.specs.Reading.{tablesOf}
+use Rattle.tables.specs.Reading.{tablesBy}
+use Rattle.tables.specs.declared.Circles.{Circles}
 use Rattle.tables.specs.declared.Tables.{Tables}
 use Rattle.tables.specs.declared.TablesAnswer.the-variants.{Read}
 use Rattle.judge.specs.declared.Phase.the-variants.{Idle}
@@ -107,6 +108,7 @@ pub record Demand (tables : Tables) (i : ℕ) : Type 0 where
       → 0 < outstanding tables (reached tables es) i
       → Closes tables i (reached tables es) (run tables (reached tables es) others)
 
--- for all tables that reading accepts, and every saga in them
+-- for all tables that reading accepts, an old book's too, and every saga in them
 abbrev pub Demand3 : Type 0
-Demand3 = (cap : ℕ) (s : List ℕ) (at : ℕ) → tablesOf cap s .answer ≡ Read at → (i : ℕ) → i < tablesOf cap s .tables .sagas → Demand (tablesOf cap s .tables) i
+Demand3 = (circles : Circles) (cap : ℕ) (s : List ℕ) (at : ℕ) → tablesBy circles cap s .answer ≡ Read at
+    → (i : ℕ) → i < tablesBy circles cap s .tables .sagas → Demand (tablesBy circles cap s .tables) i

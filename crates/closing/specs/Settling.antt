@@ -7,7 +7,8 @@ use mathlib.Core.Bool.{Bool, true, not, cond, _&&_}
 use mathlib.Core.Option.{Option, none, some}
 use mathlib.Core.List.{List, [], _∷_, _++_}
 use lib.ListN.{length}
-use Rattle.tables.specs.Reading.{tablesOf}
+use Rattle.tables.specs.Reading.{tablesBy}
+use Rattle.tables.specs.declared.Circles.{Circles}
 use Rattle.tables.specs.declared.Tables.{Tables}
 use Rattle.tables.specs.declared.TablesAnswer.the-variants.{Read}
 use Rattle.judge.specs.declared.Phase.the-variants.{Idle}
@@ -47,4 +48,5 @@ pub record Settles (tables : Tables) (es : List Event) : Type 0 where
       settled tables (run tables (reached tables es) (closeAll tables (reached tables es) (tables .sagas))) i ≡ true)
 
 abbrev pub ClosingSettles : Type 0
-ClosingSettles = (cap : ℕ) (s : List ℕ) (at : ℕ) → tablesOf cap s .answer ≡ Read at → (es : List Event) → Settles (tablesOf cap s .tables) es
+ClosingSettles = (circles : Circles) (cap : ℕ) (s : List ℕ) (at : ℕ) → tablesBy circles cap s .answer ≡ Read at
+    → (es : List Event) → Settles (tablesBy circles cap s .tables) es

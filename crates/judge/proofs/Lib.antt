@@ -8,4 +8,5 @@ pub mod Endings
 pub mod Responsible
 pub mod Singles
 pub mod TiesMean
+pub mod CircleIdle
 pub mod PromisesHold

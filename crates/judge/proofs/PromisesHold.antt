@@ -19,6 +19,7 @@ use Rattle.judge.specs.declared.Event.the-variants.{Abort, Commit}
 use Rattle.judge.specs.declared.Phase.{Phase}
 use Rattle.judge.specs.declared.Phase.the-variants.{Aborted, Committed}
 use Rattle.judge.specs.declared.State.{State}
+use Rattle.judge.proofs.CircleIdle.{never-begins}
 use Rattle.judge.proofs.Invariants.{lasting}
 use Rattle.judge.proofs.PhaseLaws.{code, of-active}
 use Rattle.judge.proofs.Responsible.{responsible-told}
@@ -46,4 +47,4 @@ any-run tables es =
     is-active p e = rw (of-active p e)
 
 pub judge-promises : JudgePromises
-judge-promises = record { one-event = one-event; ended-alone = ended-alone; any-run = any-run }
+judge-promises = record { one-event = one-event; ended-alone = ended-alone; any-run = any-run; never-begins = λ tables es t w. never-begins tables es t w }

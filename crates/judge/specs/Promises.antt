@@ -12,8 +12,11 @@ use Rattle.ties.specs.Operations.{isActive as isActiveOperation, isWrite, opAt,
 use Rattle.ties.specs.Ties.{conflict, tied, cleanFor, onRing}
 use Rattle.ties.specs.declared.Fate.{Fate}
 use Rattle.ties.specs.declared.Fate.the-variants.{Committed, Aborted}
+use Rattle.sets.specs.Reach.{Leads}
+use Rattle.tables.specs.Circles.{beginLink}
 use Rattle.tables.specs.Sorts.{isPlain, sortOf}
 use Rattle.tables.specs.declared.Tables.{Tables}
+use Rattle.judge.specs.declared.Phase.the-variants.{Idle}
 use Rattle.judge.specs.declared.State.{State}
 use Rattle.judge.specs.declared.Event.{Event}
 use Rattle.judge.specs.declared.Event.the-variants.{Commit, Abort, CommitOne, AbortOne}
@@ -92,3 +95,5 @@ pub record JudgePromises : Type 0 where
   pub one-event : (tables : Tables) (s : State) (e : Event) → OneEvent tables s e
   pub ended-alone : (tables : Tables) (s : State) (t q : ℕ) → EndedAlone tables s t q
   pub any-run : (tables : Tables) (es : List Event) → AnyRun tables es
+  -- why tables that can never move are refused: whom begin dependencies lead back to itself never begins, whatever the events
+  pub never-begins : (tables : Tables) (es : List Event) (t : ℕ) → Leads (beginLink tables) t t → phaseOf (reached tables es .transactions) t ≡ Idle

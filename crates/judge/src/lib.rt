@@ -549,7 +549,8 @@ fn commit_one(
     if ops.dirty_one(t, q) {
         return refused(Refusal::DirtyRead);
     }
-    if ops.on_ring(t) {
+    let ringed = ops.on_ring(t);
+    if ringed {
         return refused(Refusal::OnRing);
     }
     Ruling {

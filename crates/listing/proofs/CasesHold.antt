@@ -7,17 +7,18 @@ use Rattle.ties.specs.Operations.{made, given, changed, endedOps}
 use Rattle.ties.specs.Ties.{tiedTo, counts, edge, before, onRing, dirtyAt, dirty, mustWait}
 use Rattle.tables.specs.Sorts.{placeOf, sortFrom, sortOf, ownedBy}
 use Rattle.tables.specs.Dependencies.{kindOf, risesTo, entryHolds}
-use Rattle.tables.specs.Reading.{emptyTables, fieldAt, fieldWithin, sagasFrom, entryAt, dependenciesFrom, restFrom, tablesOf}
+use Rattle.tables.specs.Circles.{beginLink, stuck}
+use Rattle.tables.specs.Reading.{emptyTables, fieldAt, fieldWithin, sagasFrom, entryAt, dependenciesFrom, unlessStuck, restFrom, tablesBy}
 use Rattle.judge.specs.States.{entered}
 use Rattle.judge.specs.Rules.{declaredBars}
 use Rattle.judge.specs.Judge.{rulingOf, stateAfter, judged}
 use Rattle.closing.specs.Closing.{activeStep, toUndo, nextUndo, outstanding, closing}
 use Rattle.items.specs.Items.{eventOf, itemAt, itemsFrom, itemsAfter}
-use Rattle.book.specs.Reading.{judgeAll, readingOf}
+use Rattle.book.specs.Reading.{judgeAll, readingBy}
 use Rattle.listing.specs.Words.{digitsFrom, decimal}
 use Rattle.listing.specs.Lines.{lineCount, laterLine, lineOf}
 use Rattle.listing.specs.Cases.{joined, ListingHolds}
 
 pub listing-holds : ListingHolds
-unfolding anyBelow highest sumTo tabulate orRow pivot closed leadsTo numberAt made given changed endedOps tiedTo counts edge before onRing dirtyAt dirty mustWait placeOf sortFrom sortOf ownedBy kindOf risesTo entryHolds emptyTables fieldAt fieldWithin sagasFrom entryAt dependenciesFrom restFrom tablesOf entered declaredBars rulingOf stateAfter judged activeStep toUndo nextUndo outstanding closing eventOf itemAt itemsFrom itemsAfter judgeAll readingOf digitsFrom decimal lineCount laterLine lineOf joined
+unfolding anyBelow highest sumTo tabulate orRow pivot closed leadsTo numberAt made given changed endedOps tiedTo counts edge before onRing dirtyAt dirty mustWait placeOf sortFrom sortOf ownedBy kindOf risesTo entryHolds emptyTables fieldAt fieldWithin sagasFrom entryAt beginLink stuck dependenciesFrom unlessStuck restFrom tablesBy entered declaredBars rulingOf stateAfter judged activeStep toUndo nextUndo outstanding closing eventOf itemAt itemsFrom itemsAfter judgeAll readingBy digitsFrom decimal lineCount laterLine lineOf joined
 listing-holds = refl

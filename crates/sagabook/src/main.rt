@@ -1,4 +1,5 @@
-// Reads a book from standard input and writes its listing to standard output.
+// Reads a book from standard input and writes its listing to standard output. Called with the word `old` it reads an old book, whose tables
+// may be such as can never move.
 use book::Reading;
 use libc::STDERR_FILENO;
 use libc::STDIN_FILENO;
@@ -29,11 +30,26 @@ fn print_listing(reading: Reading) -> bool {
     true
 }
 
+// Whether the word after the program's name is `old`; a word that the room does not hold counts as none.
+fn is_old() -> bool {
+    let mut word = [0u8; 3];
+    let n = os::arg(1, &mut word);
+    (n == 3) & ((word[0] == b'o') & ((word[1] == b'l') & (word[2] == b'd')))
+}
+
+fn read_as(old: bool, bytes: &[u8]) -> Reading {
+    if old {
+        return book::read_old(bytes);
+    }
+    book::read(bytes)
+}
+
 // One byte more than a book may have is enough to know that it is too long.
 fn main() {
     let mut bytes = [0u8; 65537];
     let n = io::read_full(STDIN_FILENO, &mut bytes);
-    let reading = book::read(&bytes[..n]);
+    let old = is_old();
+    let reading = read_as(old, &bytes[..n]);
     if !print_listing(reading) {
         io::write_all(
             STDERR_FILENO,

@@ -13,6 +13,7 @@ use Rattle.closing.specs.Closing.{outstanding, closing}
 use Rattle.closing.specs.declared.NextStep.{NextStep}
 use Rattle.book.specs.Reading.{openingOf}
 use Rattle.book.specs.Packing.{unpackOutcome, writeOutcome, writtenRoom}
+use Rattle.tables.specs.declared.Circles.the-variants.{Forbidden}
 use Rattle.book.specs.declared.Reading.{Reading}
 use Rattle.book.specs.declared.Outcome.{Outcome}
 use Rattle.book.specs.declared.Outcome.the-variants.{Wrote, Refuses}
@@ -37,7 +38,7 @@ use Rattle.sagalib.specs.Numbers.{
 
 -- the accepted opening is as long as the reading says
 opening-length : (s : List ℕ) → reading s .opening ≡ length (openingOf ceiling1 s)
-opening-length s = sym (length-take-le (reading s .opening) s (opening-le ceiling1 s))
+opening-length s = sym (length-take-le (reading s .opening) s (opening-le Forbidden ceiling1 s))
 
 module _ (s : List ℕ) (r : Reading) (read : r ≡ reading s) where
   pub read-is : (number : ℕ) → number ≡ verdictNumber (r .answer) → four number (r .events) (r .place) (r .opening) ≡ readNumbers s

@@ -2,3 +2,4 @@
 pub mod SetLaws
 pub mod ReachLaws
 pub mod OutwardLaws
+pub mod RowLaws

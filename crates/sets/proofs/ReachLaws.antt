@@ -9,10 +9,11 @@ use mathlib.Core.List.{List, [], _∷_}
 use lib.Dec.{ltb}
 use lib.ListN.{getD, List·getD-map}
 use borrow.Author.Tests.{ltb-true}
-use Rattle.laws.specs.Index.{grid}
+use Rattle.laws.specs.Index.{grid, tabulate}
 use Rattle.laws.proofs.Bools.{or-left, or-right, or-cases, and-on, on-and}
 use Rattle.laws.proofs.Decisions.{same-or}
 use Rattle.laws.proofs.IndexLaws.{grid-at}
+use Rattle.laws.proofs.SameLaws.{tabulate-same}
 use Rattle.sets.specs.Reach.{Leads, among, at, orRow, pivot, closed, leadsTo, Following}
 
 getD-orRow : (xs ys : List Bool) (b : ℕ) → getD (orRow xs ys) b false ≡ (getD xs b false || getD ys b false)
@@ -26,7 +27,7 @@ getD-taken : (t : Bool) (xs ys : List Bool) (b : ℕ) → getD (cond t (orRow xs
 getD-taken true xs ys b = getD-orRow xs ys b
 getD-taken false xs ys b = sym (or-false (getD xs b false))
 
-pivot-at : (k : ℕ) (rows : List (List Bool)) (a b : ℕ) → at (pivot k rows) a b ≡ (at rows a b || (at rows a k && at rows k b))
+pub pivot-at : (k : ℕ) (rows : List (List Bool)) (a b : ℕ) → at (pivot k rows) a b ≡ (at rows a b || (at rows a k && at rows k b))
 unfolding pivot
 pivot-at k rows a b =
     ap (λ (r : List Bool). getD r b false) (List·getD-map (λ (row : List Bool). cond (getD row k false) (orRow row (getD rows k [])) row) rows a [])
@@ -41,6 +42,11 @@ join (Leads.step h v) w = Leads.step h (join v w)
 pub last-step : {R : ℕ → ℕ → Bool} {a b : ℕ} → Leads R a b → (c : ℕ) × (R c b ≡ true)
 last-step {a = a} (Leads.last h) = (a, h)
 last-step (Leads.step h w) = last-step w
+
+-- the first step of a way back: it leads to one that has a way back too
+pub circle-step : {R : ℕ → ℕ → Bool} {a : ℕ} → Leads R a a → (b : ℕ) × (R a b ≡ true) × Leads R b b
+circle-step {a = a} (Leads.last h) = (a, h, Leads.last h)
+circle-step (Leads.step {b = b} h w) = (b, h, join w (Leads.last h))
 
 -- a way along R is a way along any relation that has all of R's pairs
 pub leads-more : {R Q : ℕ → ℕ → Bool} → ((a b : ℕ) → R a b ≡ true → Q a b ≡ true) → {a b : ℕ} → Leads R a b → Leads Q a b
@@ -100,6 +106,9 @@ module _ (n : ℕ) (R : ℕ → ℕ → Bool) where
       let y = on-and (ltb b n) (R a b) (x .1) in
       (ltb-true a n (x .0), ltb-true b n (y .0))
 
+  pub among-on : (a b : ℕ) → among n R a b ≡ true → R a b ≡ true
+  among-on a b h = on-and (ltb b n) (R a b) (on-and (ltb a n) (ltb b n && R a b) h .1) .1
+
   table : at (grid n R) ≡ among n R
   table = fun-ext (λ a. fun-ext (λ b. grid-at n R a b))
 
@@ -111,6 +120,13 @@ module _ (n : ℕ) (R : ℕ → ℕ → Bool) where
   unfolding leadsTo
   leads-computed a b w =
       complete (grid n R) n (λ x y h. among-small x y (sym (grid-at n R x y) ∙ h) .1) (subst (λ (Q : ℕ → ℕ → Bool). Leads Q a b) (sym table) w)
+
+-- two relations that agree on the numbers below n lead alike
+pub leads-same : (n : ℕ) (R Q : ℕ → ℕ → Bool) → ((a b : ℕ) → a < n → b < n → R a b ≡ Q a b) → (a b : ℕ) → leadsTo n R a b ≡ leadsTo n Q a b
+unfolding leadsTo
+leads-same n R Q h a b =
+    ap (λ (rows : List (List Bool)). at (closed n rows) a b)
+    (tabulate-same n (λ x. tabulate n (R x)) (λ x. tabulate n (Q x)) (λ x l. tabulate-same n (R x) (Q x) (λ y m. h x y l m)))
 
 pub following : Following
 following =

@@ -229,6 +229,12 @@ pub set-of-more : (n : ℕ) (f : ℕ → Bool) → setOf (n + 1) f ≡ cond (f n
 unfolding setOf
 set-of-more n f = rw add-one refl
 
+-- the same of a number t below 64, whatever k is
+pub mem-inserted-small : (x k t : ℕ) → t < mostTransactions → mem (inserted x k) t ≡ (mem x t || eqb t k)
+mem-inserted-small x k t l =
+    lt-or k mostTransactions (λ h. mem-inserted x k t h)
+    (λ h. rw (inserted-past x k h, ne-eqb t k (λ e. omega arith)) (sym (or-false (mem x t))))
+
 -- its members
 pub mem-set-of : (n : ℕ) (f : ℕ → Bool) (t : ℕ) → n ≤ mostTransactions → mem (setOf n f) t ≡ (ltb t n && f t)
 unfolding setOf

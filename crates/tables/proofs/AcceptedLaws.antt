@@ -12,6 +12,7 @@ use borrow.Author.Tests.{ne-eqb}
 use Rattle.laws.proofs.Decisions.{same-or}
 use Rattle.terms.specs.Limits.{mostSagas, mostSteps, mostTransactions, mostObjects, mostDependencies}
 use Rattle.terms.specs.declared.Refusal.the-variants.{BadCount}
+use Rattle.tables.specs.declared.Circles.{Circles}
 use Rattle.tables.specs.declared.Dependency.{Dependency}
 use Rattle.tables.specs.declared.Tables.{Tables}
 use Rattle.tables.specs.declared.Counted.the-variants.{Within}
@@ -26,7 +27,7 @@ use Rattle.tables.proofs.KindLaws.{kind-back}
 use Rattle.tables.proofs.DependencyLaws.{on-allowed, on-holds}
 use Rattle.tables.proofs.SortLaws.{owned-snoc}
 use Rattle.tables.proofs.FieldLaws.{no-within, within-range}
-use Rattle.tables.proofs.WayLaws.{no-read, field-next, within-next, sagas-next, by-saga, by-entry, by-rest, by-tables}
+use Rattle.tables.proofs.WayLaws.{no-read, field-next, within-next, sagas-next, by-stuck, by-saga, by-entry, by-rest, by-tables}
 
 -- i is the last, or one before it
 last-or : {A : Type 0} (i m : ℕ) → i < m + 1 → (i ≡ m → A) → (i < m → A) → A
@@ -217,23 +218,25 @@ module _ (cap : ℕ) (s : List ℕ) (x : ℕ) where
       (λ d b kind y z next f₁ f₂ f₃ e.
       entries-all n k next (withEntry t d b kind) (field-next cap s z kind next f₃ .1) (entries-step n k d b kind t h e))
 
-  rest-well : (at sum : ℕ) (t : Tables) → at ≤ length s → Sagas 0 sum t → WellRead x (restFrom cap s at sum t)
-  rest-well at sum t b h =
-      by-rest cap s at sum t (WellRead x) b
+  rest-well : (circles : Circles) (at sum : ℕ) (t : Tables) → at ≤ length s → Sagas 0 sum t → WellRead x (restFrom circles cap s at sum t)
+  rest-well circles at sum t b h =
+      by-rest cap s circles at sum t (WellRead x) b
       (λ r p f. no-read)
       (λ p m k y z w f₁ f₂ f₃.
+      by-stuck circles z _ (WellRead x) (λ f. no-read)
+      (λ kept.
       let r₁ = within-range cap s at 0 (mostTransactions - sum) BadCount p y f₁ in
       let r₂ = within-range cap s y 0 mostObjects BadCount m z f₂ in
       let r₃ = within-range cap s z 0 mostDependencies BadCount k w f₃ in
       entries-all (sum + p) k w (withCounts t p m) (within-next cap s z 0 mostDependencies BadCount k w f₃ .1)
-      (counts-read sum p m k t h (r₁ .1) (r₂ .1) (r₃ .1)))
+      (counts-read sum p m k t h (r₁ .1) (r₂ .1) (r₃ .1))))
 
 pub accepted-well : AcceptedWell
-accepted-well cap s x =
-    by-tables cap s (WellRead x)
+accepted-well circles cap s x =
+    by-tables cap s circles (WellRead x)
     (λ r p f. no-read)
     (λ v g y z sum w f₁ f₂ f₃.
     let b = within-next cap s y 0 mostSagas BadCount g z f₂ .1 in
     let c = sagas-next cap s g z 0 emptyTables sum w b f₃ in
-    rest-well cap s x w sum (sagasFrom cap s g z 0 emptyTables .tables) (c .1)
+    rest-well cap s x circles w sum (sagasFrom cap s g z 0 emptyTables .tables) (c .1)
     (sagas-read cap s g z sum w (within-range cap s y 0 mostSagas BadCount g z f₂ .1) b f₃))

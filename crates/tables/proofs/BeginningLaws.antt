@@ -11,15 +11,16 @@ use Rattle.number.specs.Number.{numberAt}
 use Rattle.number.specs.declared.Field.{Field}
 use Rattle.number.specs.declared.Field.the-variants.{Value}
 use Rattle.number.proofs.Beginnings.{number-local, number-extends}
+use Rattle.tables.specs.declared.Circles.{Circles}
 use Rattle.tables.specs.declared.Tables.{Tables}
 use Rattle.tables.specs.declared.Counted.the-variants.{Within}
 use Rattle.tables.specs.declared.SagasRead.{SagasRead}
 use Rattle.tables.specs.declared.TablesAnswer.the-variants.{Read}
 use Rattle.tables.specs.declared.TablesRead.{TablesRead}
-use Rattle.tables.specs.Reading.{emptyTables, placedField, fieldAt, heldTo, fieldWithin, withSaga, sagasFrom, withEntry, dependenciesFrom, withCounts, restFrom, tablesOf}
+use Rattle.tables.specs.Reading.{emptyTables, placedField, fieldAt, heldTo, fieldWithin, withSaga, sagasFrom, withEntry, dependenciesFrom, withCounts, unlessStuck, restFrom, tablesBy}
 use Rattle.tables.proofs.FieldLaws.{no-within, field-value, within-range}
 use Rattle.tables.proofs.ReadingLaws.{sagas-more, entry4, entries-more, rest4, all4}
-use Rattle.tables.proofs.WayLaws.{no-read, field-next, within-next, sagas-next, by-saga, by-entry, by-rest, by-tables}
+use Rattle.tables.proofs.WayLaws.{no-read, field-next, within-next, sagas-next, by-stuck, by-saga, by-entry, by-rest, by-tables}
 
 -- u has each number that s has before the place o
 abbrev pub Agrees : ℕ → List ℕ → List ℕ → ℕ → Type 0
@@ -76,11 +77,13 @@ module _ (cap : ℕ) (s u : List ℕ) (o : ℕ) (same : Agrees cap s u o) where
           entries-more cap u n at t (suc k) k refl d b kind next (sym all) (t .declared) _ refl refl h ∙ i .2,
         ))
 
-    rest-same : (at sum : ℕ) (t : Tables) → at ≤ length s → Same at (restFrom cap u at sum t) (restFrom cap s at sum t)
-    rest-same at sum t b =
-        by-rest cap s at sum t (Same at (restFrom cap u at sum t)) b
+    rest-same : (circles : Circles) (at sum : ℕ) (t : Tables) → at ≤ length s → Same at (restFrom circles cap u at sum t) (restFrom circles cap s at sum t)
+    rest-same circles at sum t b =
+        by-rest cap s circles at sum t (Same at (restFrom circles cap u at sum t)) b
         (λ r p f. no-read)
-        (λ p m k y z w f₁ f₂ f₃ e.
+        (λ p m k y z w f₁ f₂ f₃.
+        by-stuck circles z _ (Same at (restFrom circles cap u at sum t)) (λ f. no-read)
+        (λ kept e.
         let l₁ = within-next cap s at 0 (mostTransactions - sum) BadCount p y f₁ in
         let l₂ = within-next cap s y 0 mostObjects BadCount m z f₂ in
         let l₃ = within-next cap s z 0 mostDependencies BadCount k w f₃ in
@@ -90,35 +93,35 @@ module _ (cap : ℕ) (s u : List ℕ) (o : ℕ) (same : Agrees cap s u o) where
         let g₃ = within-same z 0 mostDependencies BadCount k w f₃ (omega (arith, i .0)) in (
           omega (arith, i .0),
           i .1,
-          sym (rest4 cap u at sum t p y g₁ m z g₂ k w g₃) ∙ i .2,
-        ))
+          sym (rest4 circles cap u at sum t p y g₁ m z g₂ k w g₃) ∙ ap (unlessStuck circles z) (i .2) ∙ kept,
+        )))
 
-    tables-same : Same 0 (tablesOf cap u) (tablesOf cap s)
-    tables-same =
-        by-tables cap s (Same 0 (tablesOf cap u))
+    tables-same : (circles : Circles) → Same 0 (tablesBy circles cap u) (tablesBy circles cap s)
+    tables-same circles =
+        by-tables cap s circles (Same 0 (tablesBy circles cap u))
         (λ r p f. no-read)
         (λ v g y z sum w f₁ f₂ f₃ e.
         let l₁ = within-next cap s 0 edition edition BadEdition v y f₁ in
         let l₂ = within-next cap s y 0 mostSagas BadCount g z f₂ in
         let l₃ = sagas-next cap s g z 0 emptyTables sum w (l₂ .1) f₃ in
-        let i = rest-same w sum (sagasFrom cap s g z 0 emptyTables .tables) (l₃ .1) e in
+        let i = rest-same circles w sum (sagasFrom cap s g z 0 emptyTables .tables) (l₃ .1) e in
         let g₁ = within-same 0 edition edition BadEdition v y f₁ (omega (arith, i .0)) in
         let g₂ = within-same y 0 mostSagas BadCount g z f₂ (omega (arith, i .0)) in
         let g₃ = sagas-same g z 0 emptyTables sum w (l₂ .1) (omega (arith, i .0)) f₃ in (
           omega arith,
           i .1,
-          sym (all4 cap u v y g₁ g z g₂ (sagasFrom cap s g z 0 emptyTables) (sym g₃) sum w f₃) ∙ i .2,
+          sym (all4 circles cap u v y g₁ g z g₂ (sagasFrom cap s g z 0 emptyTables) (sym g₃) sum w f₃) ∙ i .2,
         ))
 
-module _ (cap : ℕ) (s : List ℕ) where
+module _ (circles : Circles) (cap : ℕ) (s : List ℕ) where
   -- the tables end within the book
-  pub tables-place : (at : ℕ) → tablesOf cap s .answer ≡ Read at → at ≤ length s
-  tables-place at e = tables-same cap s s at (λ x v next f h. f) at (omega arith) e .1
+  pub tables-place : (at : ℕ) → tablesBy circles cap s .answer ≡ Read at → at ≤ length s
+  tables-place at e = tables-same cap s s at (λ x v next f h. f) at (omega arith) circles e .1
 
   -- a beginning that holds them has the same
-  pub tables-local : (at o : ℕ) → tablesOf cap s .answer ≡ Read at → at ≤ o → tablesOf cap (take o s) ≡ tablesOf cap s
-  tables-local at o e h = tables-same cap s (take o s) o (λ x v next f l. number-local cap x v next s o f l) at h e .2
+  pub tables-local : (at o : ℕ) → tablesBy circles cap s .answer ≡ Read at → at ≤ o → tablesBy circles cap (take o s) ≡ tablesBy circles cap s
+  tables-local at o e h = tables-same cap s (take o s) o (λ x v next f l. number-local cap x v next s o f l) at h circles e .2
 
   -- and what a beginning has, the whole has
-  pub tables-extend : (at o : ℕ) → tablesOf cap (take o s) .answer ≡ Read at → tablesOf cap s ≡ tablesOf cap (take o s)
-  tables-extend at o e = tables-same cap (take o s) s at (λ x v next f l. number-extends cap x v next s o f) at (omega arith) e .2
+  pub tables-extend : (at o : ℕ) → tablesBy circles cap (take o s) .answer ≡ Read at → tablesBy circles cap s ≡ tablesBy circles cap (take o s)
+  tables-extend at o e = tables-same cap (take o s) s at (λ x v next f l. number-extends cap x v next s o f) at (omega arith) circles e .2

@@ -11,3 +11,5 @@ pub mod AcceptedLaws
 pub mod BeginningLaws
 pub mod RefusedLaws
 pub mod PassLaws
+pub mod CircleLaws
+pub mod CirclesHold

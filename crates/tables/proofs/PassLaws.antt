@@ -8,14 +8,15 @@ use Rattle.terms.specs.declared.Refusal.{Refusal}
 use Rattle.terms.specs.declared.Refusal.the-variants.{BadCount, BadEdition}
 use Rattle.sets.specs.Reach.{at}
 use Rattle.number.specs.declared.Field.{Field}
-use Rattle.tables.specs.Reading.{dependenciesFrom, emptyTables, fieldAt, fieldWithin, placedField, sagasFrom, tablesOf, withCounts, withEntry, withSaga}
+use Rattle.tables.specs.Reading.{dependenciesFrom, emptyTables, fieldAt, fieldWithin, placedField, sagasFrom, tablesBy, withCounts, withEntry, withSaga}
+use Rattle.tables.specs.declared.Circles.{Circles}
 use Rattle.tables.specs.declared.Counted.the-variants.{Within}
 use Rattle.tables.specs.declared.SagasRead.{SagasRead}
 use Rattle.tables.specs.declared.Tables.{Tables}
 use Rattle.tables.specs.declared.TablesAnswer.the-variants.{Read}
 use Rattle.tables.specs.declared.TablesRead.{TablesRead}
 use Rattle.tables.proofs.FieldLaws.{no-within, within-range}
-use Rattle.tables.proofs.WayLaws.{by-entry, by-rest, by-saga, by-tables, field-next, no-read, sagas-next, within-next}
+use Rattle.tables.proofs.WayLaws.{by-entry, by-rest, by-saga, by-stuck, by-tables, field-next, no-read, sagas-next, within-next}
 
 -- from a to b there are fields and nothing else
 pub data Passes (cap : ℕ) (s : List ℕ) : ℕ → ℕ → Type 0 where
@@ -59,18 +60,20 @@ module _ (cap : ℕ) (s : List ℕ) where
         on f₁ (on f₂ (on f₃ (pass-entries n k next (withEntry t d b kind) (field-next cap s w kind next f₃ .1) e))))
 
     -- the tables of a book, where they are accepted
-    pub tables-pass : tablesOf cap s .answer ≡ Read x → Passes cap s 0 x
-    tables-pass =
-        by-tables cap s (To 0) (λ r p f. no-read)
+    pub tables-pass : (circles : Circles) → tablesBy circles cap s .answer ≡ Read x → Passes cap s 0 x
+    tables-pass circles =
+        by-tables cap s circles (To 0) (λ r p f. no-read)
         (λ e g u w sum z f₁ f₂ f₃.
         let t = sagasFrom cap s g w 0 emptyTables .tables in
         let v = within-next cap s u 0 mostSagas BadCount g w f₂ .1 in
-        by-rest cap s z sum t (To 0) (sagas-next cap s g w 0 emptyTables sum z v f₃ .1) (λ r p f. no-read)
-        (λ q m k a b c h₁ h₂ h₃ h.
+        by-rest cap s circles z sum t (To 0) (sagas-next cap s g w 0 emptyTables sum z v f₃ .1) (λ r p f. no-read)
+        (λ q m k a b c h₁ h₂ h₃.
+        by-stuck circles b _ (To 0) (λ f. no-read)
+        (λ kept h.
         join (pass-within 0 edition edition BadEdition e u f₁)
         (join (pass-within u 0 mostSagas BadCount g w f₂)
         (join (pass-sagas g w 0 emptyTables sum z v f₃)
         (join (pass-within z 0 (mostTransactions - sum) BadCount q a h₁)
         (join (pass-within a 0 mostObjects BadCount m b h₂)
         (join (pass-within b 0 mostDependencies BadCount k c h₃)
-        (pass-entries (sum + q) k c (withCounts t q m) (within-next cap s b 0 mostDependencies BadCount k c h₃ .1) h))))))))
+        (pass-entries (sum + q) k c (withCounts t q m) (within-next cap s b 0 mostDependencies BadCount k c h₃ .1) h)))))))))

@@ -1,13 +1,15 @@
 -- Reading the tables, in the code's own terms: one law for each way to go on or to stop.
 use Prim.Native.Nat.{ℕ, suc, _+_, _-_, _*_, _≤_, _<_}
-use mathlib.Core.Path.{_≡_, refl, ap}
-use mathlib.Core.Bool.{true, false}
+use mathlib.Core.Path.{_≡_, refl, sym, ap, _∙_}
+use mathlib.Core.Bool.{Bool, true, false}
 use mathlib.Core.List.{List}
 use lib.ListN.{set}
 use borrow.Author.Tests.{lt-ltb, le-ltb}
 use Rattle.terms.specs.Limits.{edition, mostSagas, mostSteps, mostTransactions, mostObjects, mostDependencies}
 use Rattle.terms.specs.declared.Refusal.{Refusal}
-use Rattle.terms.specs.declared.Refusal.the-variants.{BadEdition, BadCount, BadDependency}
+use Rattle.terms.specs.declared.Refusal.the-variants.{BadEdition, BadCount, BadDependency, NeverMoves}
+use Rattle.tables.specs.declared.Circles.{Circles}
+use Rattle.tables.specs.declared.Circles.the-variants.{Forbidden, Permitted}
 use Rattle.tables.specs.declared.Tables.{Tables}
 use Rattle.tables.specs.declared.Kind.{Kind}
 use Rattle.tables.specs.declared.Counted.{Counted}
@@ -15,7 +17,9 @@ use Rattle.tables.specs.declared.Counted.the-variants.{Within, Stop}
 use Rattle.tables.specs.declared.SagasRead.{SagasRead}
 use Rattle.tables.specs.declared.Entry.{Entry}
 use Rattle.tables.specs.declared.Entry.the-variants.{Declares, Stops}
-use Rattle.tables.specs.declared.TablesAnswer.the-variants.{Read}
+use Rattle.tables.specs.declared.TablesAnswer.the-variants.{Read, Refused}
+use Rattle.tables.specs.declared.TablesRead.{TablesRead}
+use Rattle.tables.specs.Circles.{stuck}
 use Rattle.tables.specs.Dependencies.{kindOf, entryHolds}
 use Rattle.tables.specs.Reading.{
   emptyTables,
@@ -30,8 +34,9 @@ use Rattle.tables.specs.Reading.{
   refusedField,
   dependenciesFrom,
   withCounts,
+  unlessStuck,
   restFrom,
-  tablesOf,
+  tablesBy,
 }
 
 -- ---- the sagas
@@ -122,46 +127,68 @@ module _ (cap : ℕ) (s : List ℕ) (n at : ℕ) (t : Tables) where
       entries-more i m q g h =
           rw (e, f, h, g) (ap (λ (x : ℕ). dependenciesFrom cap s n j next (withEntryAt t x d b (kindOf kind))) q)
 
+-- ---- tables that were read, judged as a whole
+
+module _ (circles : Circles) (at : ℕ) (read : TablesRead) where
+  pub stuck-old : circles ≡ Permitted → read ≡ unlessStuck circles at read
+  unfolding unlessStuck
+  stuck-old e = rw e
+
+  module _ (e : circles ≡ Forbidden) where
+    pub stuck-refused : (r : Refusal) (p : ℕ) → read .answer ≡ Refused r p → read ≡ unlessStuck circles at read
+    unfolding unlessStuck
+    stuck-refused r p a = rw (e, a)
+
+    -- b is what the test of their entries said
+    module _ (x : ℕ) (a : read .answer ≡ Read x) {b : Bool} (told : b ≡ stuck (read .tables)) where
+      pub stuck-yes : b ≡ true → refused NeverMoves at ≡ unlessStuck circles at read
+      unfolding unlessStuck
+      stuck-yes h = rw (e, a, sym told ∙ h)
+
+      pub stuck-no : b ≡ false → read ≡ unlessStuck circles at read
+      unfolding unlessStuck
+      stuck-no h = rw (e, a, sym told ∙ h)
+
 -- ---- the whole: one law for each place where the chain can stop
 
-module _ (cap : ℕ) (s : List ℕ) (at sum : ℕ) (t : Tables) where
+module _ (circles : Circles) (cap : ℕ) (s : List ℕ) (at sum : ℕ) (t : Tables) where
   pub rest1 : (c : Counted) (r : Refusal) (p : ℕ) → c ≡ fieldWithin cap s at 0 (mostTransactions - sum) BadCount → c ≡ Stop r p
-      → refusedField c ≡ restFrom cap s at sum t
+      → refusedField c ≡ restFrom circles cap s at sum t
   unfolding restFrom refusedField
   rest1 c r p e f = rw (← e, f)
 
   module _ (v x : ℕ) (a : fieldWithin cap s at 0 (mostTransactions - sum) BadCount ≡ Within v x) where
     pub rest2 : (c : Counted) (r : Refusal) (p : ℕ) → c ≡ fieldWithin cap s x 0 mostObjects BadCount → c ≡ Stop r p
-        → refusedField c ≡ restFrom cap s at sum t
+        → refusedField c ≡ restFrom circles cap s at sum t
     unfolding restFrom refusedField
     rest2 c r p e f = rw (a, ← e, f)
 
     module _ (m y : ℕ) (b : fieldWithin cap s x 0 mostObjects BadCount ≡ Within m y) where
       pub rest3 : (c : Counted) (r : Refusal) (p : ℕ) → c ≡ fieldWithin cap s y 0 mostDependencies BadCount → c ≡ Stop r p
-          → refusedField c ≡ restFrom cap s at sum t
+          → refusedField c ≡ restFrom circles cap s at sum t
       unfolding restFrom refusedField
       rest3 c r p e f = rw (a, b, ← e, f)
 
       pub rest4 : (k z : ℕ) → fieldWithin cap s y 0 mostDependencies BadCount ≡ Within k z
-          → dependenciesFrom cap s (sum + v) k z (withCounts t v m) ≡ restFrom cap s at sum t
+          → unlessStuck circles y (dependenciesFrom cap s (sum + v) k z (withCounts t v m)) ≡ restFrom circles cap s at sum t
       unfolding restFrom
       rest4 k z e = rw (a, b, e)
 
-module _ (cap : ℕ) (s : List ℕ) where
-  pub all1 : (c : Counted) (r : Refusal) (p : ℕ) → c ≡ fieldWithin cap s 0 edition edition BadEdition → c ≡ Stop r p → refusedField c ≡ tablesOf cap s
-  unfolding tablesOf refusedField
+module _ (circles : Circles) (cap : ℕ) (s : List ℕ) where
+  pub all1 : (c : Counted) (r : Refusal) (p : ℕ) → c ≡ fieldWithin cap s 0 edition edition BadEdition → c ≡ Stop r p → refusedField c ≡ tablesBy circles cap s
+  unfolding tablesBy refusedField
   all1 c r p e f = rw (← e, f)
 
   module _ (v x : ℕ) (a : fieldWithin cap s 0 edition edition BadEdition ≡ Within v x) where
-    pub all2 : (c : Counted) (r : Refusal) (p : ℕ) → c ≡ fieldWithin cap s x 0 mostSagas BadCount → c ≡ Stop r p → refusedField c ≡ tablesOf cap s
-    unfolding tablesOf refusedField
+    pub all2 : (c : Counted) (r : Refusal) (p : ℕ) → c ≡ fieldWithin cap s x 0 mostSagas BadCount → c ≡ Stop r p → refusedField c ≡ tablesBy circles cap s
+    unfolding tablesBy refusedField
     all2 c r p e f = rw (a, ← e, f)
 
     module _ (g y : ℕ) (b : fieldWithin cap s x 0 mostSagas BadCount ≡ Within g y) (read : SagasRead) (q : read ≡ sagasFrom cap s g y 0 emptyTables) where
-      pub all3 : (r : Refusal) (p : ℕ) → read .answer ≡ Stop r p → refusedField (read .answer) ≡ tablesOf cap s
-      unfolding tablesOf refusedField
+      pub all3 : (r : Refusal) (p : ℕ) → read .answer ≡ Stop r p → refusedField (read .answer) ≡ tablesBy circles cap s
+      unfolding tablesBy refusedField
       all3 r p f = rw (a, b, ← q, f)
 
-      pub all4 : (sum z : ℕ) → read .answer ≡ Within sum z → restFrom cap s z sum (read .tables) ≡ tablesOf cap s
-      unfolding tablesOf
+      pub all4 : (sum z : ℕ) → read .answer ≡ Within sum z → restFrom circles cap s z sum (read .tables) ≡ tablesBy circles cap s
+      unfolding tablesBy
       all4 sum z f = rw (a, b, ← q, f)

@@ -1,25 +1,31 @@
--- Refused tables are the empty tables, and the refusal is one of 2 to 6 at a place of the book, or its end.
+-- Refused tables are the empty tables, and the refusal is one of 2 to 6 at a place of the book, or its end; or 21, which an old book's never get.
 use Prim.Native.Nat.{ℕ, zero, suc, _+_, _≤_}
 use native.Mathlib.Omega.{arith}
-use mathlib.Core.Path.{_≡_, refl}
+use mathlib.Core.Path.{_≡_, refl, sym}
+use mathlib.Core.Logic.{_⊎_, inl, inr}
 use mathlib.Core.List.{List}
 use lib.ListN.{length}
-use Rattle.terms.specs.Limits.{mostSagas, mostDependencies}
+use Rattle.terms.specs.Limits.{mostSagas, mostObjects, mostDependencies}
 use Rattle.terms.specs.declared.Refusal.{Refusal}
-use Rattle.terms.specs.declared.Refusal.the-variants.{BadCount}
+use Rattle.terms.specs.declared.Refusal.the-variants.{BadCount, NeverMoves}
+use Rattle.tables.specs.declared.Circles.{Circles}
+use Rattle.tables.specs.declared.Circles.the-variants.{Forbidden}
 use Rattle.tables.specs.declared.Tables.{Tables}
 use Rattle.tables.specs.declared.TablesAnswer.the-variants.{Refused}
 use Rattle.tables.specs.declared.TablesRead.{TablesRead}
-use Rattle.tables.specs.Reading.{emptyTables, sagasFrom, refused, withEntry, dependenciesFrom, withCounts, tablesOf}
+use Rattle.tables.specs.Reading.{emptyTables, sagasFrom, refused, withEntry, dependenciesFrom, withCounts, tablesBy}
 use Rattle.tables.proofs.FaultLaws.{Faulty}
-use Rattle.tables.proofs.WayLaws.{field-next, within-next, sagas-next, by-entry, by-rest, by-tables}
+use Rattle.tables.proofs.WayLaws.{field-next, within-next, sagas-next, by-stuck, by-entry, by-rest, by-tables}
 
-module _ (cap : ℕ) (s : List ℕ) (r : Refusal) (p : ℕ) where
+module _ (circles : Circles) (cap : ℕ) (s : List ℕ) (r : Refusal) (p : ℕ) where
   abbrev Blank : TablesRead → Type 0
-  Blank x = x .answer ≡ Refused r p → (x .tables ≡ emptyTables) × Faulty s r p
+  Blank x = x .answer ≡ Refused r p → (x .tables ≡ emptyTables) × (Faulty s r p ⊎ ((circles ≡ Forbidden) × (r ≡ NeverMoves) × (p ≤ length s)))
 
   blank-stop : (q : Refusal) (at : ℕ) → Faulty s q at → Blank (refused q at)
-  blank-stop q at f e = let a : q ≡ r = cc in let b : at ≡ p = cc in (refl, rw (← a, ← b) f)
+  blank-stop q at f e = let a : q ≡ r = cc in let b : at ≡ p = cc in (refl, inl (rw (← a, ← b) f))
+
+  blank-stuck : (at : ℕ) → at ≤ length s → circles ≡ Forbidden → Blank (refused NeverMoves at)
+  blank-stuck at l f e = let a : NeverMoves ≡ r = cc in let b : at ≡ p = cc in (refl, inr (f, sym a, omega arith))
 
   blank-entries : (n k at : ℕ) (t : Tables) → at ≤ length s → Blank (dependenciesFrom cap s n k at t)
   unfolding dependenciesFrom
@@ -28,16 +34,18 @@ module _ (cap : ℕ) (s : List ℕ) (r : Refusal) (p : ℕ) where
       by-entry cap s n k at t Blank b blank-stop
       (λ d b kind x y next f₁ f₂ f₃ h. blank-entries n k next (withEntry t d b kind) (field-next cap s y kind next f₃ .1))
 
-  blank : Blank (tablesOf cap s)
+  blank : Blank (tablesBy circles cap s)
   blank =
-      by-tables cap s Blank blank-stop
+      by-tables cap s circles Blank blank-stop
       (λ e g x y sum z f₁ f₂ f₃.
       let t = sagasFrom cap s g y 0 emptyTables .tables in
-      by-rest cap s z sum t Blank (sagas-next cap s g y 0 emptyTables sum z (within-next cap s x 0 mostSagas BadCount g y f₂ .1) f₃ .1) blank-stop
-      (λ q m k u v w h₁ h₂ h₃. blank-entries (sum + q) k w (withCounts t q m) (within-next cap s v 0 mostDependencies BadCount k w h₃ .1)))
+      by-rest cap s circles z sum t Blank (sagas-next cap s g y 0 emptyTables sum z (within-next cap s x 0 mostSagas BadCount g y f₂ .1) f₃ .1) blank-stop
+      (λ q m k u v w h₁ h₂ h₃.
+      by-stuck circles v _ Blank (blank-stuck v (within-next cap s u 0 mostObjects BadCount m v h₂ .1))
+      (λ kept. blank-entries (sum + q) k w (withCounts t q m) (within-next cap s v 0 mostDependencies BadCount k w h₃ .1))))
 
-  pub refused-empty : tablesOf cap s .answer ≡ Refused r p → tablesOf cap s .tables ≡ emptyTables
+  pub refused-empty : tablesBy circles cap s .answer ≡ Refused r p → tablesBy circles cap s .tables ≡ emptyTables
   refused-empty e = blank e .0
 
-  pub refused-number : tablesOf cap s .answer ≡ Refused r p → Faulty s r p
+  pub refused-number : tablesBy circles cap s .answer ≡ Refused r p → Faulty s r p ⊎ ((circles ≡ Forbidden) × (r ≡ NeverMoves) × (p ≤ length s))
   refused-number e = blank e .1

@@ -2,8 +2,8 @@
 -- What is shown of both ends is shown of the whole.
 use Prim.Native.Nat.{ℕ, zero, suc, _+_, _-_, _*_, _≤_, _<_}
 use native.Mathlib.Omega.{arith}
-use mathlib.Core.Path.{_≡_}
-use mathlib.Core.Bool.{true, cond}
+use mathlib.Core.Path.{_≡_, refl}
+use mathlib.Core.Bool.{true, cond, _&&_}
 use mathlib.Core.List.{List}
 use lib.ListN.{length}
 use lib.Dec.{ltb}
@@ -11,8 +11,10 @@ use borrow.Author.Tests.{ltb-false}
 use Rattle.laws.proofs.Bools.{bool-cases}
 use Rattle.terms.specs.Limits.{edition, mostSagas, mostSteps, mostTransactions, mostObjects, mostDependencies}
 use Rattle.terms.specs.declared.Refusal.{Refusal}
-use Rattle.terms.specs.declared.Refusal.the-variants.{BadEdition, BadCount, BadDependency}
+use Rattle.terms.specs.declared.Refusal.the-variants.{BadEdition, BadCount, BadDependency, NeverMoves}
 use Rattle.number.proofs.Spelling.{number-next}
+use Rattle.tables.specs.declared.Circles.{Circles}
+use Rattle.tables.specs.declared.Circles.the-variants.{Forbidden, Permitted}
 use Rattle.tables.specs.declared.Tables.{Tables}
 use Rattle.tables.specs.declared.Counted.the-variants.{Within, Stop}
 use Rattle.tables.specs.declared.SagasRead.{SagasRead}
@@ -20,6 +22,7 @@ use Rattle.tables.specs.declared.Entry.{Entry}
 use Rattle.tables.specs.declared.Entry.the-variants.{Declares, Stops}
 use Rattle.tables.specs.declared.TablesAnswer.the-variants.{Read, Refused}
 use Rattle.tables.specs.declared.TablesRead.{TablesRead}
+use Rattle.tables.specs.Circles.{stuck}
 use Rattle.tables.specs.Dependencies.{entryHolds}
 use Rattle.tables.specs.Reading.{
   emptyTables,
@@ -35,14 +38,23 @@ use Rattle.tables.specs.Reading.{
   thenEntry,
   dependenciesFrom,
   withCounts,
+  isRead,
+  unlessStuck,
   restFrom,
-  tablesOf,
+  tablesBy,
 }
 use Rattle.tables.proofs.FieldLaws.{by-field, no-within, field-value, within-range}
 use Rattle.tables.proofs.FaultLaws.{Faulty, field-fault, within-fault}
 
 pub no-read : {A : Type 0} {r : Refusal} {p at : ℕ} → Refused r p ≡ Read at → A
 no-read e = let z : _≡_ {A = ℕ} 0 1 = cc in absurd (omega arith)
+
+-- tables that were read stay as they are, or are refused at this place, which an old book's are not
+pub by-stuck : (circles : Circles) (at : ℕ) (r : TablesRead) (Q : TablesRead → Type 0) → (circles ≡ Forbidden → Q (refused NeverMoves at)) → (unlessStuck circles at r ≡ r → Q r)
+    → Q (unlessStuck circles at r)
+unfolding unlessStuck
+by-stuck Permitted at r Q stop more = more refl
+by-stuck Forbidden at r Q stop more = bool-cases (isRead (r .answer) && stuck (r .tables)) (λ h. rw h (stop refl)) (λ h. rw h (more (rw h)))
 
 module _ (cap : ℕ) (s : List ℕ) where
   -- a field at a place, and the place after it
@@ -124,14 +136,14 @@ module _ (cap : ℕ) (s : List ℕ) where
 
   -- ---- after the sagas
 
-  pub by-rest : (at sum : ℕ) (t : Tables) (Q : TablesRead → Type 0) → at ≤ length s
+  pub by-rest : (circles : Circles) (at sum : ℕ) (t : Tables) (Q : TablesRead → Type 0) → at ≤ length s
       → ((r : Refusal) (p : ℕ) → Faulty s r p → Q (refused r p))
       → ((p m k x y z : ℕ) → fieldWithin cap s at 0 (mostTransactions - sum) BadCount ≡ Within p x
       → fieldWithin cap s x 0 mostObjects BadCount ≡ Within m y → fieldWithin cap s y 0 mostDependencies BadCount ≡ Within k z
-      → Q (dependenciesFrom cap s (sum + p) k z (withCounts t p m)))
-      → Q (restFrom cap s at sum t)
+      → Q (unlessStuck circles y (dependenciesFrom cap s (sum + p) k z (withCounts t p m))))
+      → Q (restFrom circles cap s at sum t)
   unfolding restFrom
-  by-rest at sum t Q b stop more =
+  by-rest circles at sum t Q b stop more =
       by-field (fieldWithin cap s at 0 (mostTransactions - sum) BadCount) refused _ Q
       (λ p x f₁.
       let u = within-next at 0 (mostTransactions - sum) BadCount p x f₁ .1 in
@@ -146,14 +158,14 @@ module _ (cap : ℕ) (s : List ℕ) where
 
   -- ---- the whole
 
-  pub by-tables : (Q : TablesRead → Type 0)
+  pub by-tables : (circles : Circles) (Q : TablesRead → Type 0)
       → ((r : Refusal) (p : ℕ) → Faulty s r p → Q (refused r p))
       → ((e g x y sum z : ℕ) → fieldWithin cap s 0 edition edition BadEdition ≡ Within e x
       → fieldWithin cap s x 0 mostSagas BadCount ≡ Within g y → sagasFrom cap s g y 0 emptyTables .answer ≡ Within sum z
-      → Q (restFrom cap s z sum (sagasFrom cap s g y 0 emptyTables .tables)))
-      → Q (tablesOf cap s)
-  unfolding tablesOf
-  by-tables Q stop more =
+      → Q (restFrom circles cap s z sum (sagasFrom cap s g y 0 emptyTables .tables)))
+      → Q (tablesBy circles cap s)
+  unfolding tablesBy
+  by-tables circles Q stop more =
       by-field (fieldWithin cap s 0 edition edition BadEdition) refused _ Q
       (λ e x f₁.
       let u = within-next 0 edition edition BadEdition e x f₁ .1 in

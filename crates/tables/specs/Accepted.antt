@@ -1,15 +1,21 @@
--- What accepted tables are: demand 3 rests on it.
-use Prim.Native.Nat.{ℕ, _+_, _≤_, _<_}
+-- What accepted tables are: demand 3 rests on it; and which tables are refused because they can never move.
+use Prim.Native.Nat.{ℕ, zero, suc, _+_, _≤_, _<_}
 use mathlib.Core.Path.{_≡_}
 use mathlib.Core.Bool.{true}
+use mathlib.Core.Logic.{_↔_}
 use mathlib.Core.List.{List}
 use lib.ListN.{getD}
 use Rattle.terms.specs.Limits.{mostSagas, mostSteps, mostTransactions, mostObjects, mostDependencies}
+use Rattle.terms.specs.declared.Refusal.{Refusal}
+use Rattle.terms.specs.declared.Refusal.the-variants.{NeverMoves}
+use Rattle.sets.specs.Reach.{Leads}
 use Rattle.tables.specs.Sorts.{numberOfAll}
 use Rattle.tables.specs.Dependencies.{kindNumber, dependencyAt, allowed, risesFrom}
-use Rattle.tables.specs.Reading.{tablesOf}
+use Rattle.tables.specs.Circles.{beginLink}
+use Rattle.tables.specs.Reading.{andThen, fieldAt, tablesBy, tablesOf, oldTablesOf}
+use Rattle.tables.specs.declared.Circles.{Circles}
 use Rattle.tables.specs.declared.Tables.{Tables}
-use Rattle.tables.specs.declared.TablesAnswer.the-variants.{Read}
+use Rattle.tables.specs.declared.TablesAnswer.the-variants.{Read, Refused}
 
 pub record Well (t : Tables) : Type 0 where
   -- refusal 5: at most 16 sagas, each of 1 to 16 steps; N at most 64; the other counts
@@ -25,6 +31,33 @@ pub record Well (t : Tables) : Type 0 where
   pub rising : (i : ℕ) → i + 1 < t .declared
       → risesFrom (dependencyAt t i) (dependencyAt t (i + 1) .dependent) (dependencyAt t (i + 1) .base) (kindNumber (dependencyAt t (i + 1) .kind)) ≡ true
 
--- tables that reading accepts are well formed
+-- tables that reading accepts are well formed, an old book's too
 abbrev pub AcceptedWell : Type 0
-AcceptedWell = (cap : ℕ) (s : List ℕ) (at : ℕ) → tablesOf cap s .answer ≡ Read at → Well (tablesOf cap s .tables)
+AcceptedWell = (circles : Circles) (cap : ℕ) (s : List ℕ) (at : ℕ) → tablesBy circles cap s .answer ≡ Read at → Well (tablesBy circles cap s .tables)
+
+-- ---- tables that can never move
+
+-- the place of field n of a book, counted from 0, which is the edition
+unfoldable pub placeOfField : ℕ → List ℕ → ℕ → ℕ
+placeOfField cap s zero = 0
+placeOfField cap s (suc n) = andThen (fieldAt cap s (placeOfField cap s n)) (λ r p. p) (λ v next. next)
+
+-- the dependency count stands after the edition, the number of sagas, the steps of each, the plain transactions and the objects
+abbrev pub countPlace : ℕ → List ℕ → Tables → ℕ
+countPlace cap s tables = placeOfField cap s (4 + tables .sagas)
+
+-- "begin kinds 4 to 7 lead from a transaction back to itself"
+abbrev pub GoesRound : Tables → Type 0
+GoesRound tables = (t : ℕ) × Leads (beginLink tables) t t
+
+pub record CirclesRefused (cap : ℕ) (s : List ℕ) : Type 0 where
+  -- "Refuse tables exactly when": where an old book's are accepted, and go round; "place at the dependency count"
+  pub refused : (p : ℕ) → (tablesOf cap s .answer ≡ Refused NeverMoves p)
+      ↔ (((at : ℕ) × (oldTablesOf cap s .answer ≡ Read at)) × (GoesRound (oldTablesOf cap s .tables) × (p ≡ countPlace cap s (oldTablesOf cap s .tables))))
+  -- "judged after the last dependency entry": every other refusal of tables comes first
+  pub others-first : (r : Refusal) (p : ℕ) → oldTablesOf cap s .answer ≡ Refused r p → tablesOf cap s ≡ oldTablesOf cap s
+  -- what is accepted is read as it was
+  pub accepted : (at : ℕ) → tablesOf cap s .answer ≡ Read at → oldTablesOf cap s ≡ tablesOf cap s
+
+abbrev pub NeverMovesRefused : Type 0
+NeverMovesRefused = (cap : ℕ) (s : List ℕ) → CirclesRefused cap s

@@ -1,23 +1,28 @@
 -- Reading the tables (document 01, 'The book' 1 to 5, and 'What comes back'): "Fields are judged as they are read: 2 and 3 first, then 4 to 7;
--- a dependency's three fields are read before 6." The place of 2 to 5 is the first byte of the field, that of 6 the entry's.
+-- a dependency's three fields are read before 6." The place of 2 to 5 is the first byte of the field, that of 6 the entry's. Document 02, request 3:
+-- 21 is "judged after the last dependency entry and before the first event, place at the dependency count".
 use Prim.Native.Nat.{ℕ, zero, suc, _+_, _*_, _-_}
-use mathlib.Core.Bool.{cond, _||_}
+use mathlib.Core.Bool.{Bool, true, false, cond, _&&_, _||_}
 use mathlib.Core.List.{List}
 use lib.ListN.{set, replicate}
 use lib.Dec.{ltb}
 use Rattle.terms.specs.Limits.{edition, mostSagas, mostSteps, mostTransactions, mostObjects, mostDependencies}
 use Rattle.terms.specs.declared.Refusal.{Refusal}
-use Rattle.terms.specs.declared.Refusal.the-variants.{Torn, BadEdition, BadCount, BadDependency}
+use Rattle.terms.specs.declared.Refusal.the-variants.{Torn, BadEdition, BadCount, BadDependency, NeverMoves}
 use Rattle.number.specs.Number.{numberAt}
 use Rattle.number.specs.declared.Field.{Field}
 use Rattle.number.specs.declared.Field.the-variants.{Value, Fault}
 use Rattle.tables.specs.Dependencies.{kindOf, noDependency, entryHolds}
+use Rattle.tables.specs.Circles.{stuck}
+use Rattle.tables.specs.declared.Circles.{Circles}
+use Rattle.tables.specs.declared.Circles.the-variants.{Forbidden, Permitted}
 use Rattle.tables.specs.declared.Tables.{Tables}
 use Rattle.tables.specs.declared.Counted.{Counted}
 use Rattle.tables.specs.declared.Counted.the-variants.{Within, Stop}
 use Rattle.tables.specs.declared.SagasRead.{SagasRead}
 use Rattle.tables.specs.declared.Entry.{Entry}
 use Rattle.tables.specs.declared.Entry.the-variants.{Declares, Stops}
+use Rattle.tables.specs.declared.TablesAnswer.{TablesAnswer}
 use Rattle.tables.specs.declared.TablesAnswer.the-variants.{Read, Refused}
 use Rattle.tables.specs.declared.TablesRead.{TablesRead}
 
@@ -81,6 +86,11 @@ sagasFrom cap s (suc k) at sum tables =
 abbrev pub refused : Refusal → ℕ → TablesRead
 refused r at = record { answer = Refused r at; tables = emptyTables }
 
+-- they were accepted
+abbrev pub isRead : TablesAnswer → Bool
+isRead (Read at) = true
+isRead (Refused r p) = false
+
 -- a field that was refused, as what an entry is; a value is none, and counts as torn
 unfoldable pub stoppedEntry : Counted → Entry
 stoppedEntry f = andThen f Stops (λ v next. Stops Torn next)
@@ -134,18 +144,31 @@ withCounts tables p m =
       declared = tables .declared;
     }
 
+-- tables whose entries were all accepted are refused if they can never move, at the place of the dependency count; an old book's are read
+unfoldable pub unlessStuck : Circles → ℕ → TablesRead → TablesRead
+unlessStuck Permitted at read = read
+unlessStuck Forbidden at read = cond (isRead (read .answer) && stuck (read .tables)) (refused NeverMoves at) read
+
 -- plain transactions, at most 64 and no more than leaves N at most 64; objects; dependencies
-unfoldable pub restFrom : ℕ → List ℕ → ℕ → ℕ → Tables → TablesRead
-restFrom cap s at sum tables =
+unfoldable pub restFrom : Circles → ℕ → List ℕ → ℕ → ℕ → Tables → TablesRead
+restFrom circles cap s at sum tables =
     andThen (fieldWithin cap s at 0 (mostTransactions - sum) BadCount) refused
     (λ p x. andThen (fieldWithin cap s x 0 mostObjects BadCount) refused
     (λ m y. andThen (fieldWithin cap s y 0 mostDependencies BadCount) refused
-    (λ k z. dependenciesFrom cap s (sum + p) k z (withCounts tables p m))))
+    (λ k z. unlessStuck circles y (dependenciesFrom cap s (sum + p) k z (withCounts tables p m)))))
 
 -- edition, sagas, and the rest: the tables with the place after them, or a refusal with its place and the empty tables
-unfoldable pub tablesOf : ℕ → List ℕ → TablesRead
-tablesOf cap s =
+unfoldable pub tablesBy : Circles → ℕ → List ℕ → TablesRead
+tablesBy circles cap s =
     andThen (fieldWithin cap s 0 edition edition BadEdition) refused
     (λ e x. andThen (fieldWithin cap s x 0 mostSagas BadCount) refused
     (λ g y. andThen (sagasFrom cap s g y 0 emptyTables .answer) refused
-    (λ sum z. restFrom cap s z sum (sagasFrom cap s g y 0 emptyTables .tables))))
+    (λ sum z. restFrom circles cap s z sum (sagasFrom cap s g y 0 emptyTables .tables))))
+
+-- the tables of a book
+abbrev pub tablesOf : ℕ → List ℕ → TablesRead
+tablesOf cap s = tablesBy Forbidden cap s
+
+-- "Old books with such tables stay readable"
+abbrev pub oldTablesOf : ℕ → List ℕ → TablesRead
+oldTablesOf cap s = tablesBy Permitted cap s

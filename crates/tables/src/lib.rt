@@ -5,12 +5,16 @@ use terms::Book;
 use terms::Refusal;
 use terms::Saga;
 ghost use mathlib.Core.Path.{_≡_};
-ghost use Prim.Native.Nat.{_*_, _≤_, _<_, min};
+ghost use Prim.Native.Nat.{ℕ, _*_, _≤_, _<_, min};
+ghost use lib.ListN.{getD};
 ghost use Rattle.terms.specs.Limits.{mostSagas, mostTransactions, mostDependencies};
+ghost use Rattle.sets.specs.Reach.{leadsTo};
+ghost use Rattle.sets.specs.Sets.{mem};
 ghost use Rattle.number.specs.Number.{ceiling1};
 ghost use Rattle.tables.specs.Sorts.{placeOf, sortOf, isKnown, isSaga, isUndo, isPlain, undosOf, sagaOf};
 ghost use Rattle.tables.specs.Dependencies.{kindNumber, kindOf, mayBase, mayDepend, allowed, risesFrom, risesTo, entryHolds};
-ghost use Rattle.tables.specs.Reading.{emptyTables, placedField, stoppedEntry, refused, refusedEntry, refusedField, fieldAt, heldTo, fieldWithin, sagasFrom, entryAt, dependenciesFrom, restFrom, tablesOf};
+ghost use Rattle.tables.specs.Circles.{isBeginKind, beginLink, stuck};
+ghost use Rattle.tables.specs.Reading.{emptyTables, placedField, stoppedEntry, refused, refusedEntry, refusedField, fieldAt, heldTo, fieldWithin, sagasFrom, entryAt, dependenciesFrom, unlessStuck, restFrom, tablesBy, tablesOf, oldTablesOf};
 
 // What a dependency asks of its base before its dependent may commit (the first three) or begin.
 pub enum Kind {
@@ -77,6 +81,13 @@ pub struct TablesRead {
     pub tables: Tables,
 }
 
+// What becomes of tables that can never move, because begin dependencies lead from a transaction back to itself: they are refused, or, as
+// those of an old book, read.
+pub enum Circles {
+    Forbidden,
+    Permitted,
+}
+
 impl Kind {
     // The number that the rules give it.
     pub fn number(self) -> u8
@@ -91,6 +102,13 @@ impl Kind {
             Kind::BeginOnCommit => 6,
             Kind::BeginOnAbort => 7,
         }
+    }
+
+    // Whether it asks something of a begin.
+    fn is_begin_kind(self) -> bool
+        ensures { λ r. ⌜ r ≡ isBeginKind self ⌝ }
+    {
+        4 <= self.number()
     }
 
     // The kind that a number from 1 to 7 stands for.
@@ -517,10 +535,102 @@ fn dependencies_from(
     }
 }
 
+// For each transaction the set of those that its begin waits for.
+fn begin_links(tables: Tables) -> [u64; Book::TRANSACTIONS]
+    ensures { λ r. ⌜ ((d b : ℕ) → d < mostTransactions → b < mostTransactions → mem (getD r d 0) b ≡ beginLink tables d b) ⌝ }
+{
+    let declared = tables.declared;
+    let mut n: usize = Book::DEPENDENCIES;
+    if declared < Book::DEPENDENCIES {
+        n = declared;
+    }
+    let mut links = [0u64; Book::TRANSACTIONS];
+    let mut i: usize = 0;
+    while i < n {
+        let x = tables.dependencies[i];
+        let kind = x.kind;
+        let d = x.dependent as usize;
+        let b = x.base as usize;
+        if kind.is_begin_kind() & (d < Book::TRANSACTIONS) {
+            let others = links[d];
+            links[d] = sets::with_member(others, b);
+        }
+        i += 1;
+    }
+    links
+}
+
+// The same followed on: each set takes in the sets of those it has.
+fn followed(links: [u64; Book::TRANSACTIONS]) -> [u64; Book::TRANSACTIONS]
+    ensures { λ r. ⌜ ((a b : ℕ) → a < mostTransactions → b < mostTransactions → mem (getD r a 0) b ≡ leadsTo mostTransactions (λ x y. mem (getD links x 0) y) a b) ⌝ }
+{
+    let mut rows = links;
+    let mut k: usize = 0;
+    while k < Book::TRANSACTIONS {
+        let through = rows[k];
+        let mut a: usize = 0;
+        while a < Book::TRANSACTIONS {
+            let row = rows[a];
+            if sets::member(row, k) {
+                rows[a] = row | through;
+            }
+            a += 1;
+        }
+        k += 1;
+    }
+    rows
+}
+
+// Whether begin dependencies lead from a transaction back to itself.
+fn never_move(tables: Tables) -> bool
+    ensures { λ r. ⌜ r ≡ stuck tables ⌝ }
+{
+    let declared = tables.declared;
+    if declared == 0 {
+        return false;
+    }
+    let links = begin_links(tables);
+    let rows = followed(links);
+    let mut t: usize = 0;
+    while t < Book::TRANSACTIONS {
+        let row = rows[t];
+        if sets::member(row, t) {
+            return true;
+        }
+        t += 1;
+    }
+    false
+}
+
+// Tables that were read, unless they can never move and are no old book's; `place` is that of their dependency count.
+fn unless_stuck(circles: Circles, place: usize, read: TablesRead) -> TablesRead
+    ensures { λ r. ⌜ r ≡ unlessStuck circles place read ⌝ }
+{
+    let Circles::Forbidden = circles else {
+        return read;
+    };
+    let answer = read.answer;
+    let TablesAnswer::Read(_) = answer else {
+        return read;
+    };
+    let tables = read.tables;
+    if never_move(tables) {
+        return refused(Refusal::NeverMoves, place);
+    }
+    read
+}
+
 // What follows the sagas, which own `sum` transactions.
-fn rest_from(book: &[u8], at: usize, most: usize, sum: usize, tables: Tables) -> TablesRead
+fn rest_from(
+    book: &[u8],
+    at: usize,
+    most: usize,
+    sum: usize,
+    tables: Tables,
+    circles: Circles,
+) -> TablesRead
     requires { ⌜ (sum ≤ mostTransactions) × (tables .declared ≡ 0) ⌝ }
-    ensures { λ r. ⌜ r ≡ restFrom most (now (book .entry)) at sum tables ⌝ }
+    ensures { λ r. ⌜ r ≡ restFrom circles most (now (book .entry)) at sum tables ⌝ }
 {
     let f = field_within(
         book,
@@ -545,12 +655,12 @@ fn rest_from(book: &[u8], at: usize, most: usize, sum: usize, tables: Tables) ->
     all.plain = plain;
     all.objects = objects;
     let n = sum + plain;
-    dependencies_from(book, first, most, count, n, all)
+    let read = dependencies_from(book, first, most, count, n, all);
+    unless_stuck(circles, q, read)
 }
 
-// The tables of a book and the place of its first event; or the refusal, with the empty tables.
-pub fn read_tables(book: &[u8]) -> TablesRead
-    ensures { λ r. ⌜ r ≡ tablesOf ceiling1 (now (book .entry)) ⌝ }
+fn tables_by(book: &[u8], circles: Circles) -> TablesRead
+    ensures { λ r. ⌜ r ≡ tablesBy circles ceiling1 (now (book .entry)) ⌝ }
 {
     let most = Number::MOST;
     let e = field_within(
@@ -574,5 +684,19 @@ pub fn read_tables(book: &[u8]) -> TablesRead
         return stopped_by_field(a);
     };
     let tables = s.tables;
-    rest_from(book, after, most, sum, tables)
+    rest_from(book, after, most, sum, tables, circles)
+}
+
+// The tables of a book and the place of its first event; or the refusal, with the empty tables.
+pub fn read_tables(book: &[u8]) -> TablesRead
+    ensures { λ r. ⌜ r ≡ tablesOf ceiling1 (now (book .entry)) ⌝ }
+{
+    tables_by(book, Circles::Forbidden)
+}
+
+// The same of an old book, whose tables may be such as can never move.
+pub fn read_old_tables(book: &[u8]) -> TablesRead
+    ensures { λ r. ⌜ r ≡ oldTablesOf ceiling1 (now (book .entry)) ⌝ }
+{
+    tables_by(book, Circles::Permitted)
 }

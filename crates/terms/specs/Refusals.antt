@@ -22,6 +22,7 @@ use Rattle.terms.specs.declared.Refusal.the-variants.{
   Full,
   NoRoom,
   AlreadyEnded,
+  NeverMoves,
 }
 use Rattle.terms.specs.declared.Verdict.{Verdict}
 use Rattle.terms.specs.declared.Verdict.the-variants.{Accepted, Refused}
@@ -67,6 +68,8 @@ numberOf Full = 18
 numberOf NoRoom = 19
 -- operation already ended
 numberOf AlreadyEnded = 20
+-- tables that can never move: begin dependencies lead from a transaction back to itself
+numberOf NeverMoves = 21
 
 -- a verdict as a number: 0 for accepted
 abbrev pub verdictNumber : Verdict → ℕ

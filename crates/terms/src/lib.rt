@@ -80,6 +80,7 @@ pub enum Refusal {
     Full,
     NoRoom,
     AlreadyEnded,
+    NeverMoves,
 }
 
 impl Refusal {
@@ -108,6 +109,7 @@ impl Refusal {
             Refusal::Full => 18,
             Refusal::NoRoom => 19,
             Refusal::AlreadyEnded => 20,
+            Refusal::NeverMoves => 21,
         }
     }
 }

@@ -95,7 +95,7 @@ fn places_are_counted_in_fields() {
         write(&list, &mut []),
         Err(refused(6, 0, second_to_last_entry))
     );
-    list[second_to_last_entry + 2] = 4;
+    list[second_to_last_entry + 2] = 2;
     let tables = list.len();
     list.extend([2, 0]);
     assert_eq!(write(&list, &mut []), Err(refused(11, 0, tables)));

@@ -1,9 +1,10 @@
 use native.Mathlib.Omega.{arith}
-use mathlib.Core.Path.{sym, _∙_}
+use mathlib.Core.Path.{sym, ap, _∙_}
 use Prim.Native.Nat.{_-_, _≤_}
 use denote.Ref.{now}
 use Rattle.terms.specs.Limits.{mostTransactions, mostDependencies}
 use Rattle.terms.specs.declared.Refusal.the-variants.{BadCount}
+use Rattle.tables.specs.Reading.{unlessStuck}
 use Rattle.tables.proofs.FieldLaws.{within-range}
 use Rattle.tables.proofs.ReadingLaws.{rest1, rest2, rest3, rest4}
 use borrow.Author.Needs.{needs}
@@ -30,7 +31,7 @@ returns c =
     let a = c .before .before .before .before .before .args in
     let n = c .before .before .before .field-within in
     c .stopped-by-field .ensures
-    ∙ rest1 (a .most) (now (a .book)) (a .at) (a .sum) (a .tables) (n .result) _ _ (n .ensures) (c .before .enum-told .given .1)
+    ∙ rest1 (a .circles) (a .most) (now (a .book)) (a .at) (a .sum) (a .tables) (n .result) _ _ (n .ensures) (c .before .enum-told .given .1)
 
 field-within-requires-2 : tie.Need-field-within-requires-2
 field-within-requires-2 c κs = search needs
@@ -51,7 +52,7 @@ returns-2 c =
     let first = sym (k .before .before .before .field-within .ensures) ∙ k .before .f .given .1 in
     let n = c .before .before .before .field-within2 in
     c .stopped-by-field2 .ensures
-    ∙ rest2 (a .most) (now (a .book)) (a .at) (a .sum) (a .tables) _ _ first (n .result) _ _ (n .ensures) (c .before .enum-told2 .given .1)
+    ∙ rest2 (a .circles) (a .most) (now (a .book)) (a .at) (a .sum) (a .tables) _ _ first (n .result) _ _ (n .ensures) (c .before .enum-told2 .given .1)
 
 field-within-requires-3 : tie.Need-field-within-requires-3
 field-within-requires-3 c κs = search needs
@@ -74,7 +75,7 @@ returns-3 c =
     let second = sym (j .before .before .before .field-within2 .ensures) ∙ j .before .g .given .1 in
     let n = c .before .before .before .field-within3 in
     c .stopped-by-field3 .ensures
-    ∙ rest3 (a .most) (now (a .book)) (a .at) (a .sum) (a .tables) _ _ first _ _ second (n .result) _ _ (n .ensures) (c .before .enum-told3 .given .1)
+    ∙ rest3 (a .circles) (a .most) (now (a .book)) (a .at) (a .sum) (a .tables) _ _ first _ _ second (n .result) _ _ (n .ensures) (c .before .enum-told3 .given .1)
 
 add-n : tie.Need-add-n
 add-n c =
@@ -99,17 +100,22 @@ dependencies-from-requires c κs =
       (omega (arith, r .1), pre .1),
     )
 
+unless-stuck-requires : tie.Need-unless-stuck-requires
+unless-stuck-requires c κs = search needs
+
 returns-4 : tie.Need-returns-4
 returns-4 c =
-    let i = c .before in
+    let d = c .before in
+    let i = d .before in
     let j = i .before .before .before .before in
     let k = j .before .before .before .before in
     let a = k .before .before .before .before .before .args in
     let first = sym (k .before .before .before .field-within .ensures) ∙ k .before .f .given .1 in
     let second = sym (j .before .before .before .field-within2 .ensures) ∙ j .before .g .given .1 in
     let third = sym (i .before .before .before .field-within3 .ensures) ∙ i .before .h .given .1 in
-    c .dependencies-from .ensures
-    ∙ rest4 (a .most) (now (a .book)) (a .at) (a .sum) (a .tables) _ _ first _ _ second _ _ third
+    c .unless-stuck .ensures
+    ∙ ap (unlessStuck (a .circles) _) (d .dependencies-from .ensures)
+    ∙ rest4 (a .circles) (a .most) (now (a .book)) (a .at) (a .sum) (a .tables) _ _ first _ _ second _ _ third
 
 pub rest-from-spec : {M : Type 1} → statement M
 rest-from-spec =
@@ -133,4 +139,5 @@ rest-from-spec =
     returns-3
     add-n
     dependencies-from-requires
+    unless-stuck-requires
     returns-4)

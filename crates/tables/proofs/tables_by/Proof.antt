@@ -9,8 +9,8 @@ use Rattle.tables.proofs.ReadingLaws.{all1, all2, all3, all4}
 use Rattle.tables.proofs.WayLaws.{within-next}
 use Rattle.tables.proofs.AcceptedLaws.{sagas-read}
 use borrow.Author.Needs.{needs}
-use Rattle.tables.proofs.read_tables.Statement.{statement}
-use Rattle.tables.proofs.read_tables.Tie as tie
+use Rattle.tables.proofs.tables_by.Statement.{statement}
+use Rattle.tables.proofs.tables_by.Tie as tie
 
 field-within-requires : tie.Need-field-within-requires
 field-within-requires c κs = search needs
@@ -28,7 +28,7 @@ returns : tie.Need-returns
 returns c =
     let a = c .before .before .before .before .before .args in
     let n = c .before .before .before .field-within in
-    c .stopped-by-field .ensures ∙ all1 ceiling1 (now (a .book)) (n .result) _ _ (n .ensures) (c .before .enum-told .given .1)
+    c .stopped-by-field .ensures ∙ all1 (a .circles) ceiling1 (now (a .book)) (n .result) _ _ (n .ensures) (c .before .enum-told .given .1)
 
 field-within-requires-2 : tie.Need-field-within-requires-2
 field-within-requires-2 c κs = search needs
@@ -49,7 +49,7 @@ returns-2 c =
     let first = sym (k .before .before .before .field-within .ensures) ∙ k .before .e .given .1 in
     let n = c .before .before .before .field-within2 in
     c .stopped-by-field2 .ensures
-    ∙ all2 ceiling1 (now (a .book)) _ _ first (n .result) _ _ (n .ensures) (c .before .enum-told2 .given .1)
+    ∙ all2 (a .circles) ceiling1 (now (a .book)) _ _ first (n .result) _ _ (n .ensures) (c .before .enum-told2 .given .1)
 
 sagas-from-requires : tie.Need-sagas-from-requires
 sagas-from-requires c κs =
@@ -76,7 +76,7 @@ returns-3 c =
     let second = sym (j .before .before .before .field-within2 .ensures) ∙ j .before .g .given .1 in
     let n = c .before .before .before .sagas-from in
     c .stopped-by-field3 .ensures
-    ∙ all3 ceiling1 (now (a .book)) _ _ first _ _ second (n .result) (n .ensures) _ _ (c .before .enum-told3 .given .1)
+    ∙ all3 (a .circles) ceiling1 (now (a .book)) _ _ first _ _ second (n .result) (n .ensures) _ _ (c .before .enum-told3 .given .1)
 
 rest-from-requires : tie.Need-rest-from-requires
 rest-from-requires c κs =
@@ -104,10 +104,10 @@ returns-4 c =
     let second = sym (j .before .before .before .field-within2 .ensures) ∙ j .before .g .given .1 in
     let n = d .before .before .before .before .sagas-from in
     c .rest-from .ensures
-    ∙ all4 ceiling1 (now (a .book)) _ _ first _ _ second (n .result) (n .ensures) _ _ (d .before .before .a .given .1)
+    ∙ all4 (a .circles) ceiling1 (now (a .book)) _ _ first _ _ second (n .result) (n .ensures) _ _ (d .before .before .a .given .1)
 
-pub read-tables-spec : {M : Type 1} → statement M
-read-tables-spec =
+pub tables-by-spec : {M : Type 1} → statement M
+tables-by-spec =
     tie.close
     (tie.spec
     field-within-requires
