@@ -64,6 +64,17 @@ module _ (ops : Ops) (a : ℕ) where
         grown : (k : ℕ) → mem (inserted x b) k ≡ (mem x k || eqb k b)
         grown k = mem-inserted x b k (counts-small (opAt ops i) (opAt ops j) j c .1)
 
+    -- whoever answers for j is found already
+    pub visit-known : mem x (opAt ops j .responsible) ≡ true → Visited ops a i (j + 1) x
+    visit-known h = record {
+      only = v .only;
+      all = λ k w m n. same-or (w .p) i
+          (λ e. same-or (w .q) j
+          (λ f. subst (λ (b : ℕ). mem x b ≡ true) (ap (λ (q : ℕ). opAt ops q .responsible) (sym f) ∙ w .second) h)
+          (λ f. let late : w .q < j + 1 = n e in v .all k w m (λ g. omega arith)))
+          (λ e. v .all k w m (λ g. absurd (e g)));
+    }
+
     -- it does not
     pub visit-out : counts (opAt ops i) (opAt ops j) j ≡ false → Visited ops a i (j + 1) x
     visit-out c = record {

@@ -353,9 +353,11 @@ impl Ops {
                     let mut j = i + 1;
                     while j < n {
                         let q = self.all[j];
-                        if p.counts_with(q, j) {
-                            let b = q.responsible as usize;
-                            found = sets::with_member(found, b);
+                        let b = q.responsible as usize;
+                        if !sets::member(found, b) {
+                            if p.counts_with(q, j) {
+                                found = sets::with_member(found, b);
+                            }
                         }
                         j += 1;
                     }

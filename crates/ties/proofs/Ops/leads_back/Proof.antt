@@ -5,11 +5,12 @@ use mathlib.Core.Path.{_≡_, sym, ap, _∙_, subst}
 use mathlib.Core.Bool.{true}
 use mathlib.Core.Logic.{⊎-elim}
 use lib.Bits.{or-lt}
+use Rattle.laws.proofs.Bools.{off-not}
 use Rattle.sets.specs.Sets.{mem}
 use Rattle.sets.proofs.SetLaws.{mem-alone, lowest-in}
 use Rattle.sets.proofs.OutwardLaws.{Outward, outward-first, outward-more, outward-less}
 use Rattle.ties.specs.Ties.{before}
-use Rattle.ties.proofs.VisitLaws.{Visited, visit-none, visit-mine, visit-other, visit-in, visit-out, visit-next, visit-all}
+use Rattle.ties.proofs.VisitLaws.{Visited, visit-none, visit-mine, visit-other, visit-in, visit-known, visit-out, visit-next, visit-all}
 use Rattle.ties.proofs.RingLaws.{ring-none, ring-met}
 use Rattle.ties.proofs.Ops.leads_back.Statement.{statement}
 use Rattle.ties.proofs.Ops.leads_back.Tie as tie
@@ -82,12 +83,15 @@ element-copy-out-q :
     tie.Need-element-copy-out-q Inv-loop3 μ-loop3 Inv-loop2 μ-loop2 Inv-loop μ-loop
 element-copy-out-q c = search needs
 
+cast-b : tie.Need-cast-b Inv-loop3 μ-loop3 Inv-loop2 μ-loop2 Inv-loop μ-loop
+cast-b c = search needs
+
+member-requires : tie.Need-member-requires Inv-loop3 μ-loop3 Inv-loop2 μ-loop2 Inv-loop μ-loop
+member-requires c κs = search needs
+
 counts-with-requires :
     tie.Need-counts-with-requires Inv-loop3 μ-loop3 Inv-loop2 μ-loop2 Inv-loop μ-loop
 counts-with-requires c κs = search needs
-
-cast-b : tie.Need-cast-b Inv-loop3 μ-loop3 Inv-loop2 μ-loop2 Inv-loop μ-loop
-cast-b c = search needs
 
 with-member-requires-2 :
     tie.Need-with-member-requires-2 Inv-loop3 μ-loop3 Inv-loop2 μ-loop2 Inv-loop μ-loop
@@ -101,17 +105,19 @@ loop3-less c = search needs
 
 loop3-again : tie.Need-loop3-again Inv-loop3 μ-loop3 Inv-loop2 μ-loop2 Inv-loop μ-loop
 loop3-again c =
-    let ops = c .before .before .before .before .before .before .before .before .before .before .before .before .before .before .before .args .t1 in
-    let a = c .before .before .before .before .before .before .before .before .before .before .lowest .result in
-    let i = c .before .before .before .before .before .before .before .before .before .loop2 .i in
-    let l = c .before .before .before .before .loop3 in
-    let told = c .before .counts-with .ensures in (
+    let ops = c .before .before .before .before .before .before .before .before .before .before .before .before .before .before .before .before .args .t1 in
+    let a = c .before .before .before .before .before .before .before .before .before .before .before .lowest .result in
+    let i = c .before .before .before .before .before .before .before .before .before .before .loop2 .i in
+    let l = c .before .before .before .before .before .loop3 in (
       omega arith,
       omega arith,
       ⊎-elim
-          (λ w. subst (Visited ops a i (l .j + 1)) (sym (w .3 ∙ w .2 .ensures))
-          (visit-in ops a i (l .j) (l .found) (l .inv .2) (c .before .before .before .before .before .if1 .taken) (l .inv .0) (omega arith) (sym told ∙ w .0 .taken)))
-          (λ w. subst (Visited ops a i (l .j + 1)) (sym (w .1)) (visit-out ops a i (l .j) (l .found) (l .inv .2) (sym told ∙ w .0 .left)))
+          (λ w. subst (Visited ops a i (l .j + 1)) (sym (w .4 ∙ w .3 .ensures))
+          (visit-in ops a i (l .j) (l .found) (l .inv .2) (c .before .before .before .before .before .before .if1 .taken) (l .inv .0) (omega arith) (sym (w .1 .ensures) ∙ w .2 .taken)))
+          (⊎-elim
+          (λ w. subst (Visited ops a i (l .j + 1)) (sym (w .3)) (visit-out ops a i (l .j) (l .found) (l .inv .2) (sym (w .1 .ensures) ∙ w .2 .left)))
+          (λ w. subst (Visited ops a i (l .j + 1)) (sym (w .1))
+          (visit-known ops a i (l .j) (l .found) (l .inv .2) (sym (c .before .member .ensures) ∙ off-not (c .before .member .result) (w .0 .left)))))
           (c .if2 .came),
     )
 
@@ -133,8 +139,8 @@ loop2-again c =
           (c .if1 .came),
     )
 
-member-requires : tie.Need-member-requires Inv-loop3 μ-loop3 Inv-loop2 μ-loop2 Inv-loop μ-loop
-member-requires c κs = search needs
+member-requires-2 : tie.Need-member-requires-2 Inv-loop3 μ-loop3 Inv-loop2 μ-loop2 Inv-loop μ-loop
+member-requires-2 c κs = search needs
 
 -- the one to visit is among those to visit
 here : (c : tie.After-lowest Inv-loop3 μ-loop3 Inv-loop2 μ-loop2 Inv-loop μ-loop) → mem (c .before .before .loop .waiting) (c .lowest .result) ≡ true
@@ -155,7 +161,7 @@ returns c =
     let l = c .before .before .before .before .before .before .loop in
     sym
     (ring-met (a .t1) (a .t) (l .reached) (l .waiting) (l .inv .2) (c .before .before .before .before .lowest .result) (c .before .before .before .loop2 .found) (here (c .before .before .before .before)) (found (c .before .before))
-    (sym (c .before .member .ensures) ∙ c .if3 .taken))
+    (sym (c .before .member2 .ensures) ∙ c .if4 .taken))
 
 without-requires : tie.Need-without-requires Inv-loop3 μ-loop3 Inv-loop2 μ-loop2 Inv-loop μ-loop
 without-requires c κs = search needs
@@ -181,7 +187,7 @@ loop-again c =
       or-lt 64 (l .reached) (new .result) (l .inv .0) (omega arith),
       or-lt 64 (left .result) (new .result) (omega arith) (omega arith),
       outward-more (before (a .t1)) (a .t) (l .reached) (l .waiting) (l .inv .2) (c .before .before .before .before .before .before .lowest .result) (c .before .before .before .before .before .loop2 .found) (here (c .before .before .before .before .before .before)) (found (c .before .before .before .before))
-          (new .result) (left .result) (new .ensures) (left .ensures) (sym (c .before .before .before .member .ensures) ∙ c .before .before .if3 .left),
+          (new .result) (left .result) (new .ensures) (left .ensures) (sym (c .before .before .before .member2 .ensures) ∙ c .before .before .if4 .left),
     )
 
 returns-2 : tie.Need-returns-2 Inv-loop3 μ-loop3 Inv-loop2 μ-loop2 Inv-loop μ-loop
@@ -212,8 +218,9 @@ leads-back-spec =
     loop3-holds
     mul-q
     element-copy-out-q
-    counts-with-requires
     cast-b
+    member-requires
+    counts-with-requires
     with-member-requires-2
     add-j-2
     loop3-less
@@ -221,7 +228,7 @@ leads-back-spec =
     add-i
     loop2-less
     loop2-again
-    member-requires
+    member-requires-2
     returns
     without-requires
     without-member-requires
