@@ -8,7 +8,6 @@ use mathlib.Core.List.{List, _∷_, _++_}
 use lib.ListN.{length}
 use lib.Dec.{ltb, leb}
 use borrow.Author.Tests.{lt-ltb, le-ltb, le-leb, lt-leb}
-use Rattle.laws.specs.Lines.{Off}
 use Rattle.laws.proofs.Bools.{and-off, and-on}
 use Rattle.laws.proofs.Decisions.{lt-or}
 use Rattle.terms.specs.Limits.{mostTransactions}
@@ -18,7 +17,7 @@ use Rattle.tables.specs.Accepted.{Well}
 use Rattle.tables.specs.Sorts.{firstOf, stepsOf}
 use Rattle.tables.specs.declared.Tables.{Tables}
 use Rattle.tables.proofs.SagaLaws.{owned-le, well-steps}
-use Rattle.judge.specs.Judge.{changeOf, judged, lines, stateAfter}
+use Rattle.judge.specs.Judge.{changeOf, judged, stateAfter}
 use Rattle.judge.specs.States.{entered, own, phaseOf}
 use Rattle.judge.specs.declared.Event.{Event}
 use Rattle.judge.specs.declared.Event.the-variants.{Abort, AbortOne, Begin, Commit, CommitOne, Delegate, Operation as Invoke}
@@ -27,7 +26,8 @@ use Rattle.judge.specs.declared.Phase.the-variants.{Aborted, Active, Committed}
 use Rattle.judge.specs.declared.State.{State}
 use Rattle.judge.specs.declared.Transaction.{Transaction}
 use Rattle.judge.proofs.PhaseLaws.{code}
-use Rattle.judge.proofs.RunLaws.{lines-off}
+use Rattle.histories.proofs.Steps.{Ending, Entering, ending, entering, step}
+use Rattle.ties.specs.declared.Fate.the-variants.{Aborted as FateAborted, Committed as FateCommitted}
 use Rattle.judge.proofs.StateLaws.{entered-other, entered-same}
 use Rattle.closing.specs.Demand.{commitsOf, mine}
 use Rattle.closing.proofs.Moves.{Inv, Move, Moved, Next, abort-saga, abort-step, begin-saga, begin-step, begin-undo, commit-saga, commit-step, commit-undo, movedAt}
@@ -148,7 +148,7 @@ module _ (tables : Tables) (well : Well tables) (i : ℕ) (listed : i < tables .
       has-step
       k
       l
-      (subst (λ (x : ℕ). Off (lines tables s (Begin x))) (sym q) (lines-off tables s (Begin t) v))))
+      (subst (λ (x : ℕ). Entering tables s x) (sym q) (entering tables s (step tables s (Begin t) v)))))
       (λ h es. refl)
   acts (Commit t) v =
       acts-at
@@ -169,7 +169,7 @@ module _ (tables : Tables) (well : Well tables) (i : ℕ) (listed : i < tables .
       has-step
       k
       l
-      (subst (λ (x : ℕ). Off (lines tables s (Commit x))) (sym q) (lines-off tables s (Commit t) v))))
+      (subst (λ (x : ℕ). Ending tables s x Committed FateCommitted) (sym q) (ending tables s (step tables s (Commit t) v)))))
       (λ h es. rw h)
   acts (Abort t) v =
       acts-at
@@ -190,7 +190,7 @@ module _ (tables : Tables) (well : Well tables) (i : ℕ) (listed : i < tables .
       has-step
       k
       l
-      (subst (λ (x : ℕ). Off (lines tables s (Abort x))) (sym q) (lines-off tables s (Abort t) v))))
+      (subst (λ (x : ℕ). Ending tables s x Aborted FateAborted) (sym q) (ending tables s (step tables s (Abort t) v)))))
       (λ h es. refl)
   acts (Invoke t o m) v = quiet (λ k l. refl) (λ es. refl)
   acts (Delegate t r q) v = quiet (λ k l. refl) (λ es. refl)

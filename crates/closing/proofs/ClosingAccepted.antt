@@ -32,7 +32,7 @@ use Rattle.judge.specs.declared.Phase.the-variants.{Aborted, Active, Committed}
 use Rattle.judge.specs.declared.State.{State}
 use Rattle.judge.specs.declared.Transaction.{Transaction}
 use Rattle.judge.proofs.PhaseLaws.{code, committed-is, not-active, not-committed, of-aborted, of-active, of-committed, of-idle}
-use Rattle.judge.proofs.RunLaws.{off-lines}
+use Rattle.histories.proofs.RunLaws.{off-lines}
 use Rattle.judge.proofs.StateLaws.{entered-other, entered-same}
 use Rattle.closing.proofs.Moves.{Move, Moved, abort-saga, abort-step, begin-saga, begin-step, begin-undo, commit-saga, commit-step, commit-undo, movedAt, movedTo}
 use Rattle.closing.proofs.OutstandingLaws.{Safe, moveEvent}

@@ -21,7 +21,7 @@ use Rattle.tables.specs.Sorts.{firstOf, stepsOf}
 use Rattle.tables.specs.declared.Tables.{Tables}
 use Rattle.tables.proofs.AcceptedLaws.{accepted-well}
 use Rattle.tables.proofs.SagaLaws.{well-steps}
-use Rattle.judge.specs.Histories.{history, reached, run}
+use Rattle.histories.specs.Histories.{history, reached, run}
 use Rattle.judge.specs.Judge.{changeOf, judged, stateAfter}
 use Rattle.judge.specs.Rules.{undone}
 use Rattle.judge.specs.States.{emptyState, isActive, isCommitted}
@@ -30,7 +30,8 @@ use Rattle.judge.specs.declared.Phase.{Phase}
 use Rattle.judge.specs.declared.Phase.the-variants.{Aborted, Active, Committed, Idle}
 use Rattle.judge.specs.declared.State.{State}
 use Rattle.judge.proofs.PhaseLaws.{code-inj}
-use Rattle.judge.proofs.RunLaws.{by-verdict, keeps, next-ok, run-no, run-none, run-ok}
+use Rattle.histories.proofs.Steps.{step}
+use Rattle.histories.proofs.RunLaws.{by-verdict, keeps, next-ok, run-no, run-none, run-ok}
 use Rattle.closing.specs.Closing.{activeStep, backStep, closing, closingBy, eventOf, isListed, nextUndo, outstanding, outstandingBy, owed, ownOf, settled, toUndo}
 use Rattle.closing.specs.Demand.{Beginning, Closes, Demand, Demand3, allForeign, backRun, commitsOf, foreign, mine, wholeRun}
 use Rattle.closing.proofs.Acts.{Acts, acts, mine-on, moved, quiet}
@@ -158,7 +159,7 @@ module _ (tables : Tables) (well : Well tables) (i : ℕ) (low : i < tables .sag
   settled-is s = rw is-listed
 
   pub good-kept : (s : State) (e : Event) → Good tables i s → judged tables s e .verdict ≡ Accepted → Good tables i (stateAfter (changeOf e) s)
-  good-kept s e h v = record { fair = fair-kept tables well i low s e (h .fair) v; tidy = tidy-kept tables s e (h .tidy) v }
+  good-kept s e h v = record { fair = fair-kept tables well i low s e (h .fair) v; tidy = tidy-kept tables s (changeOf e) (h .tidy) (step tables s e v) }
 
   pub good-start : Good tables i emptyState
   good-start = record { fair = fair-start tables well i low; tidy = tidy-start tables }

@@ -7,14 +7,16 @@ use Rattle.tables.specs.Accepted.{Well}
 use Rattle.tables.specs.Sorts.{firstOf, stepsOf}
 use Rattle.tables.specs.declared.Tables.{Tables}
 use Rattle.tables.proofs.SagaLaws.{well-steps}
-use Rattle.judge.specs.Histories.{history, reached, run, taken}
+use Rattle.histories.specs.Histories.{history, reached, run, taken}
 use Rattle.judge.specs.Judge.{changeOf, judged, stateAfter}
 use Rattle.judge.specs.States.{emptyState, own}
 use Rattle.judge.specs.declared.Event.{Event}
 use Rattle.judge.specs.declared.State.{State}
-use Rattle.judge.proofs.Invariants.{Lasting, lasting-kept, lasting-start}
+use Rattle.histories.proofs.Invariants.{lasting-kept, lasting-start}
+use Rattle.histories.proofs.Lasts.{Lasting}
 use Rattle.judge.proofs.PhaseLaws.{code}
-use Rattle.judge.proofs.RunLaws.{by-verdict, keeps, run-no, run-ok, taken-no, taken-ok}
+use Rattle.histories.proofs.Steps.{step}
+use Rattle.histories.proofs.RunLaws.{by-verdict, keeps, run-no, run-ok, taken-no, taken-ok}
 use Rattle.judge.proofs.StateLaws.{all-idle}
 use Rattle.closing.specs.Demand.{commitsOf}
 use Rattle.closing.proofs.Acts.{Acts, acts, inv-same, move-commits, moved, quiet, shape-same}
@@ -40,7 +42,7 @@ module _ (tables : Tables) (well : Well tables) (i : ℕ) (listed : i < tables .
   after s e = stateAfter (changeOf e) s
 
   pub fair-kept : (s : State) (e : Event) → Fair f n s → judged tables s e .verdict ≡ Accepted → Fair f n (after s e)
-  fair-kept s e h v = record { lasts = lasting-kept tables s e (h .lasts) v; inv = go (acts tables well i listed s (h .lasts .full) e v) }
+  fair-kept s e h v = record { lasts = lasting-kept tables s (changeOf e) (h .lasts) (step tables s e v); inv = go (acts tables well i listed s (h .lasts .full) e v) }
     where
       go : Acts f n s e → Inv n (own (after s e .transactions) f)
       go (moved m d q) = keep n (own (s .transactions) f) (own (after s e .transactions) f) m d has-step (h .inv)

@@ -5,7 +5,6 @@ use mathlib.Core.Path.{_≡_, refl, ap, _∙_}
 use mathlib.Core.Bool.{not, _||_}
 use lib.Dec.{ltb, leb}
 use borrow.Author.Tests.{ltb-true, lt-leb}
-use Rattle.laws.specs.Lines.{Off}
 use Rattle.laws.proofs.Bools.{clash, off-not, on-and, on-not, or-rest}
 use Rattle.laws.proofs.Decisions.{by-place}
 use Rattle.sets.specs.Reach.{at}
@@ -13,15 +12,16 @@ use Rattle.tables.specs.Sorts.{firstOf, sortOf, stepsOf}
 use Rattle.tables.specs.declared.Sort.the-variants.{Saga as SagaItself}
 use Rattle.tables.specs.declared.Tables.{Tables}
 use Rattle.tables.proofs.SagaLaws.{sort-saga, sort-step, sort-undo}
-use Rattle.judge.specs.Judge.{lines}
 use Rattle.judge.specs.Rules.{stepBegins, undoBegins, undone}
-use Rattle.judge.specs.States.{isAborted, isActive, isCommitted, isIdle, own}
+use Rattle.judge.specs.States.{isAborted, isActive, isCommitted, own}
 use Rattle.judge.specs.declared.Event.{Event}
 use Rattle.judge.specs.declared.Event.the-variants.{Abort, Begin, Commit}
 use Rattle.judge.specs.declared.Phase.{Phase}
-use Rattle.judge.specs.declared.Phase.the-variants.{Committed}
+use Rattle.judge.specs.declared.Phase.the-variants.{Aborted, Committed}
 use Rattle.judge.specs.declared.State.{State}
-use Rattle.judge.proofs.PhaseLaws.{aborted-is, active-is, active-not, code-inj, committed-is, committed-not, idle-is}
+use Rattle.judge.proofs.PhaseLaws.{aborted-is, active-is, active-not, code-inj, committed-is, committed-not}
+use Rattle.histories.proofs.Steps.{Ending, Entering}
+use Rattle.ties.specs.declared.Fate.the-variants.{Aborted as FateAborted, Committed as FateCommitted}
 use Rattle.closing.proofs.Moves.{Move, abort-saga, abort-step, begin-saga, begin-step, begin-undo, commit-saga, commit-step, commit-undo, movedAt, movedTo}
 use Rattle.closing.proofs.OutstandingLaws.{moveEvent}
 
@@ -49,20 +49,20 @@ module _ (tables : Tables) (i : ℕ) (s : State) where
   pub sort-first : 1 ≤ n → sortOf tables (f + 0) ≡ SagaItself f n
   sort-first h = ap (sortOf tables) f0 ∙ sort-saga tables i h
 
-  pub begin-own : 1 ≤ n → (k : ℕ) → k < 2 * n → Off (lines tables s (Begin (f + k))) → Moves f n P k 1 (Begin (f + k))
+  pub begin-own : 1 ≤ n → (k : ℕ) → k < 2 * n → Entering tables s (f + k) → Moves f n P k 1 (Begin (f + k))
   begin-own 1≤n =
       by-place
-      (λ k. Off (lines tables s (Begin (f + k))) → Moves f n P k 1 (Begin (f + k)))
+      (λ k. Entering tables s (f + k) → Moves f n P k 1 (Begin (f + k)))
       n
       (λ z off.
       record {
-        move = begin-saga (idle-is (P 0) (off-not (isIdle (P 0)) (off .1 .0)));
+        move = begin-saga (off .idle);
         at = refl;
         to = refl;
         event = ap {B = Event} Begin f0;
       })
       (λ k a b off.
-      let r = rw (sort-step tables i k a b) at (off .1 .1 .0) in
+      let r = rw (sort-step tables i k a b) at (off .rule) in
       let t = on-and (isActive (P 0)) (leb k 1 || isCommitted (P (k - 1))) (off-not (stepBegins P k) r) in
       record {
         move =
@@ -70,7 +70,7 @@ module _ (tables : Tables) (i : ℕ) (s : State) where
             k
             a
             b
-            (idle-is (P k) (off-not (isIdle (P k)) (off .1 .0)))
+            (off .idle)
             (active-is (P 0) (t .0))
             (λ l. committed-is (P (k - 1)) (or-rest (leb k 1) (isCommitted (P (k - 1))) (t .1) (lt-leb k 1 l)));
         at = refl;
@@ -78,7 +78,7 @@ module _ (tables : Tables) (i : ℕ) (s : State) where
         event = refl;
       })
       (λ j a b off.
-      let r = rw (sort-undo tables i j a b) at (off .1 .1 .0) in
+      let r = rw (sort-undo tables i j a b) at (off .rule) in
       let t = on-and (isAborted (P 0)) _ (off-not (undoBegins n P j) r) in
       let u = on-and (isCommitted (P j)) _ (t .1) in
       let v = on-and (not (isActive (P (j + 1)))) (not (isCommitted (P (j + 1))) || undone n P (j + 1)) (u .1) in
@@ -88,7 +88,7 @@ module _ (tables : Tables) (i : ℕ) (s : State) where
             j
             a
             b
-            (idle-is (P (n + j)) (off-not (isIdle (P (n + j))) (off .1 .0)))
+            (off .idle)
             (aborted-is (P 0) (t .0))
             (committed-is (P j) (u .0))
             (active-not (P (j + 1)) (on-not (isActive (P (j + 1))) (v .0)))
@@ -109,31 +109,31 @@ module _ (tables : Tables) (i : ℕ) (s : State) where
         event = refl {a = Begin (f + (n + j))};
       })
 
-  pub commit-own : 1 ≤ n → (k : ℕ) → k < 2 * n → Off (lines tables s (Commit (f + k))) → Moves f n P k 2 (Commit (f + k))
+  pub commit-own : 1 ≤ n → (k : ℕ) → k < 2 * n → Ending tables s (f + k) Committed FateCommitted → Moves f n P k 2 (Commit (f + k))
   commit-own 1≤n =
       by-place
-      (λ k. Off (lines tables s (Commit (f + k))) → Moves f n P k 2 (Commit (f + k)))
+      (λ k. Ending tables s (f + k) Committed FateCommitted → Moves f n P k 2 (Commit (f + k)))
       n
       (λ z off.
-      let r = rw (sort-first 1≤n) at (off .1 .1 .0) in
+      let r = rw (sort-first 1≤n) at (off .rule .0) in
       record {
         move =
             commit-saga
-            (active-is (P 0) (off-not (isActive (P 0)) (off .1 .0)))
+            (off .active)
             (committed-is (P n) (off-not (isCommitted (P n)) r));
         at = refl;
         to = refl;
         event = ap {B = Event} Commit f0;
       })
       (λ k a b off.
-      let r = rw (sort-step tables i k a b) at (off .1 .1 .0) in
+      let r = rw (sort-step tables i k a b) at (off .rule .0) in
       record {
         move =
             commit-step
             k
             a
             b
-            (active-is (P k) (off-not (isActive (P k)) (off .1 .0)))
+            (off .active)
             (active-is (P 0) (off-not (isActive (P 0)) r));
         at = refl;
         to = refl;
@@ -141,30 +141,30 @@ module _ (tables : Tables) (i : ℕ) (s : State) where
       })
       (λ j a b off.
       record {
-        move = commit-undo j a b (active-is (P (n + j)) (off-not (isActive (P (n + j))) (off .1 .0)));
+        move = commit-undo j a b (off .active);
         at = refl;
         to = refl;
         event = refl;
       })
 
-  pub abort-own : 1 ≤ n → (k : ℕ) → k < 2 * n → Off (lines tables s (Abort (f + k))) → Moves f n P k 3 (Abort (f + k))
+  pub abort-own : 1 ≤ n → (k : ℕ) → k < 2 * n → Ending tables s (f + k) Aborted FateAborted → Moves f n P k 3 (Abort (f + k))
   abort-own 1≤n =
       by-place
-      (λ k. Off (lines tables s (Abort (f + k))) → Moves f n P k 3 (Abort (f + k)))
+      (λ k. Ending tables s (f + k) Aborted FateAborted → Moves f n P k 3 (Abort (f + k)))
       n
       (λ z off.
-      let r = rw (sort-first 1≤n) at (off .1 .1 .1 .0) in
+      let r = rw (sort-first 1≤n) at (off .rule .1) in
       record {
-        move = abort-saga (active-is (P 0) (off-not (isActive (P 0)) (off .1 .1 .0))) (committed-not (P n) r);
+        move = abort-saga (off .active) (committed-not (P n) r);
         at = refl;
         to = refl;
         event = ap {B = Event} Abort f0;
       })
       (λ k a b off.
       record {
-        move = abort-step k a b (active-is (P k) (off-not (isActive (P k)) (off .1 .1 .0)));
+        move = abort-step k a b (off .active);
         at = refl;
         to = refl;
         event = refl;
       })
-      (λ j a b off. clash refl (rw (sort-undo tables i j a b) at (off .1 .0)))
+      (λ j a b off. clash refl (rw (sort-undo tables i j a b) at (off .rule .0)))

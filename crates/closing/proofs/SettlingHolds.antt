@@ -11,24 +11,24 @@ use borrow.Author.Tests.{le-ltb}
 use mathlib.Core.Option.{some}
 use denote.Ref.{now}
 use Rattle.laws.proofs.Bools.{and-off, and-on, not-on}
-use Rattle.laws.proofs.Decisions.{lt-or, same-or}
+use Rattle.laws.proofs.Decisions.{same-or}
 use Rattle.tables.specs.Accepted.{Well}
 use Rattle.tables.specs.Reading.{tablesBy}
 use Rattle.tables.specs.Sorts.{firstOf, stepsOf}
 use Rattle.tables.specs.declared.Tables.{Tables}
 use Rattle.tables.proofs.AcceptedLaws.{accepted-well}
 use Rattle.tables.proofs.SagaLaws.{owned-apart}
-use Rattle.judge.specs.Histories.{next, reached, run, taken}
-use Rattle.judge.specs.Judge.{changeOf, judged, stateAfter}
-use Rattle.judge.specs.States.{emptyState, entered, phaseOf}
+use Rattle.histories.specs.Histories.{next, reached, run, taken}
+use Rattle.judge.specs.Judge.{judged}
+use Rattle.judge.specs.States.{emptyState, phaseOf}
 use Rattle.judge.specs.declared.Event.{Event}
-use Rattle.judge.specs.declared.Event.the-variants.{Abort, AbortOne, Begin, Commit, CommitOne, Delegate, Operation as Invoke}
 use Rattle.judge.specs.declared.Phase.{Phase}
 use Rattle.judge.specs.declared.Phase.the-variants.{Aborted, Active, Committed, Idle}
 use Rattle.judge.specs.declared.State.{State}
 use Rattle.judge.proofs.PhaseLaws.{code}
-use Rattle.judge.proofs.RunLaws.{keeps, next-ok, run-append, taken-append}
-use Rattle.judge.proofs.StateLaws.{entered-other, entered-same, past-idle}
+use Rattle.histories.proofs.RunLaws.{next-ok, run-append, taken-append}
+use Rattle.histories.proofs.Steps.{keeps-by}
+use Rattle.histories.proofs.Touches.{phased, rises}
 use Rattle.closing.specs.Closing.{closing, eventOf, outstanding, ownOf, settled}
 use Rattle.closing.specs.Demand.{allForeign, foreign, mine}
 use Rattle.closing.specs.Settling.{ClosingSettles, closeAll, closeOne, closingSteps}
@@ -36,29 +36,9 @@ use Rattle.closing.proofs.DemandHolds.{Good, Lowers, alike, good-kept, 
 
 -- ---- what was begun stays begun
 
-entered-begun : (s : State) (u t : ℕ) (p : Phase) → 1 ≤ code p → 1 ≤ code (phaseOf (s .transactions) t)
-    → 1 ≤ code (phaseOf (entered p u (s .transactions)) t)
-entered-begun s u t p h b =
-    same-or t u
-    (λ e.
-    lt-or u (length (s .transactions))
-    (λ l. omega (arith, ap (λ (x : ℕ). code (phaseOf (entered p u (s .transactions)) x)) e, ap code (entered-same (s .transactions) u p l)))
-    (λ l. absurd (omega (arith, ap (λ (x : ℕ). code (phaseOf (s .transactions) x)) e, ap code (past-idle (s .transactions) u l)))))
-    (λ e. omega (arith, ap code (entered-other (s .transactions) u t p e)))
-
-begun-kept : (t : ℕ) (s : State) (e : Event) → 1 ≤ code (phaseOf (s .transactions) t) → 1 ≤ code (phaseOf (stateAfter (changeOf e) s .transactions) t)
-unfolding stateAfter
-begun-kept t s (Begin u) h = entered-begun s u t Active (omega arith) h
-begun-kept t s (Commit u) h = entered-begun s u t Committed (omega arith) h
-begun-kept t s (Abort u) h = entered-begun s u t Aborted (omega arith) h
-begun-kept t s (Invoke u o m) h = h
-begun-kept t s (Delegate u r q) h = h
-begun-kept t s (CommitOne u q) h = h
-begun-kept t s (AbortOne u q) h = h
-
 begun-run : (tables : Tables) (t : ℕ) (es : List Event) (s : State) → 1 ≤ code (phaseOf (s .transactions) t)
     → 1 ≤ code (phaseOf (run tables s es .transactions) t)
-begun-run tables t = keeps tables (λ s. 1 ≤ code (phaseOf (s .transactions) t)) (λ s e h v. begun-kept t s e h)
+begun-run tables t = keeps-by tables (λ s. 1 ≤ code (phaseOf (s .transactions) t)) (λ s c h w. omega (arith, rises tables s c (phased tables s c w t)))
 
 -- not idle, as a number
 begun-code : (p : Phase) → p ≢ Idle → 1 ≤ code p

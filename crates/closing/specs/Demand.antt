@@ -17,7 +17,7 @@ use Rattle.judge.specs.declared.Event.{Event}
 use Rattle.judge.specs.declared.Event.the-variants.{Begin, Commit, Abort, Operation as Invoke, Delegate, CommitOne, AbortOne}
 use Rattle.judge.specs.declared.State.{State}
 use Rattle.judge.specs.Judge.{judged}
-use Rattle.judge.specs.Histories.{run, reached, history}
+use Rattle.histories.specs.Histories.{run, reached, history}
 use Rattle.closing.specs.declared.NextStep.the-variants.{NoStep}
 use Rattle.closing.specs.Closing.{eventOf, ownOf, outstanding, closing, settled}
 

@@ -15,7 +15,7 @@ use Rattle.judge.specs.declared.Phase.the-variants.{Idle}
 use Rattle.judge.specs.declared.Event.{Event}
 use Rattle.judge.specs.declared.State.{State}
 use Rattle.judge.specs.Judge.{judged}
-use Rattle.judge.specs.Histories.{run, taken, reached}
+use Rattle.histories.specs.Histories.{run, taken, reached}
 use Rattle.closing.specs.Closing.{eventOf, ownOf, outstanding, closing, settled}
 
 -- the next k closing steps of saga i, each judged where the one before it left off

@@ -21,7 +21,6 @@ use Rattle.terms.specs.declared.Verdict.the-variants.{Accepted, Refused}
 use Rattle.judge.specs.Judge.{unknown, unknownObject, verdictBy, changeBy, ruledBy}
 use Rattle.judge.specs.declared.Change.{Change}
 use Rattle.judge.specs.declared.Change.the-variants.{Nothing}
-use Rattle.judge.proofs.RunLaws.{not-accepted}
 use Rattle.judge.specs.Rules.{barredBy, kindBars, stepBegins}
 use Rattle.judge.specs.States.{isActive, isCommitted, phaseOf}
 use Rattle.judge.specs.declared.Phase.{Phase}
@@ -66,6 +65,9 @@ pub operation-known : (tables : Tables) (ops : Ops) (t r q : ℕ)
     → (unknown tables t || (unknown tables r || not (ltb q (size ops)))) ≡ false → q < size ops
 operation-known tables ops t r q off =
     single-known tables ops r q (off-or (unknown tables t) (unknown tables r || not (ltb q (size ops))) off .1)
+
+pub not-accepted : (r : Refusal) → Refused r ≡ Accepted → ⊥
+not-accepted r e = let z : _≡_ {A = ℕ} 0 1 = cc in omega arith
 
 -- ---- lines that several events share, and an event's own after them; v is the answer of those that are shared
 

@@ -2,5 +2,3 @@
 pub mod States
 pub mod Rules
 pub mod Judge
-pub mod Histories
-pub mod Promises

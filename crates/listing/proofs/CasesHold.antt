@@ -3,7 +3,7 @@ use mathlib.Core.Path.{refl}
 use Rattle.laws.specs.Index.{anyBelow, highest, sumTo, tabulate}
 use Rattle.sets.specs.Reach.{orRow, pivot, closed, leadsTo}
 use Rattle.number.specs.Number.{numberAt}
-use Rattle.ties.specs.Operations.{made, given, changed, endedOps}
+use Rattle.ties.specs.Operations.{made, changed, rewritten}
 use Rattle.ties.specs.Ties.{tiedTo, counts, edge, before, onRing, dirtyAt, dirty, mustWait}
 use Rattle.tables.specs.Sorts.{placeOf, sortFrom, sortOf, ownedBy}
 use Rattle.tables.specs.Dependencies.{kindOf, risesTo, entryHolds}
@@ -20,5 +20,5 @@ use Rattle.listing.specs.Lines.{lineCount, laterLine, lineOf}
 use Rattle.listing.specs.Cases.{joined, ListingHolds}
 
 pub listing-holds : ListingHolds
-unfolding anyBelow highest sumTo tabulate orRow pivot closed leadsTo numberAt made given changed endedOps tiedTo counts edge before onRing dirtyAt dirty mustWait placeOf sortFrom sortOf ownedBy kindOf risesTo entryHolds emptyTables fieldAt fieldWithin sagasFrom entryAt beginLink stuck dependenciesFrom unlessStuck restFrom tablesBy entered declaredBars rulingOf stateAfter judged activeStep toUndo nextUndo outstanding closing eventOf itemAt itemsFrom itemsAfter judgeAll readingBy digitsFrom decimal lineCount laterLine lineOf joined
+unfolding anyBelow highest sumTo tabulate orRow pivot closed leadsTo numberAt made changed rewritten tiedTo counts edge before onRing dirtyAt dirty mustWait placeOf sortFrom sortOf ownedBy kindOf risesTo entryHolds emptyTables fieldAt fieldWithin sagasFrom entryAt beginLink stuck dependenciesFrom unlessStuck restFrom tablesBy entered declaredBars rulingOf stateAfter judged activeStep toUndo nextUndo outstanding closing eventOf itemAt itemsFrom itemsAfter judgeAll readingBy digitsFrom decimal lineCount laterLine lineOf joined
 listing-holds = refl

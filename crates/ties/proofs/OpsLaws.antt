@@ -8,13 +8,14 @@ use mathlib.Core.Logic.{_≢_}
 use mathlib.Core.List.{List}
 use lib.Dec.{ltb, eqb}
 use lib.ListN.{length, getD, set, length-set, List·getD-eq-default}
-use lib.Seq.{set-out, getD-set-same, getD-set-other}
+use lib.Seq.{set-out, ext-getD, getD-set-same, getD-set-other}
 use borrow.Author.Tests.{lt-ltb, le-ltb, eq-eqb, ne-eqb}
+use Rattle.laws.proofs.Bools.{bool-cases}
 use Rattle.laws.proofs.Decisions.{same-or, lt-or}
 use Rattle.ties.specs.declared.Fate.{Fate}
 use Rattle.ties.specs.declared.Operation.{Operation}
 use Rattle.ties.specs.declared.Ops.{Ops}
-use Rattle.ties.specs.Operations.{mostOperations, isActive, blank, opAt, size, made, givenTo, given, endedAs, endedAlone, endedOne, endedBy, changed, endedOps}
+use Rattle.ties.specs.Operations.{mostOperations, isActive, blank, opAt, size, made, endedAs, endedAlone, endedBy, changed, rewrites, rewritten, onlyActive, allHeldBy, endedOps}
 
 -- what stands at p after a store at q
 stored-at : (l : List Operation) (q : ℕ) (op : Operation) → q < length l → (p : ℕ) → getD (set l q op) p blank ≡ cond (eqb p q) op (getD l p blank)
@@ -24,9 +25,9 @@ stored-at l q op h p =
     (λ e. rw (ne-eqb p q e) (getD-set-other l q p op blank e))
 
 -- the same for a change that leaves a blank operation as it is: then it does not matter whether the list has a place q
-rewritten-at : (f : Operation → Operation) → f blank ≡ blank
+stored-over : (f : Operation → Operation) → f blank ≡ blank
     → (l : List Operation) (q p : ℕ) → getD (set l q (f (getD l q blank))) p blank ≡ cond (eqb p q) (f (getD l p blank)) (getD l p blank)
-rewritten-at f z l q p =
+stored-over f z l q p =
     same-or p q
     (λ e.
     rw (eq-eqb p q e, e)
@@ -61,24 +62,85 @@ length-made op ops =
     (λ h. rw (made-room op ops h) (length-set (ops .all) (ops .count) op))
     (λ h. rw (made-full op ops h))
 
--- ---- delegation
+-- with another operation at place i
+abbrev pub stored : ℕ → Ops → Operation → Ops
+stored i ops op = record { all = set (ops .all) i op; count = ops .count }
 
-pub given-at : (q receiver : ℕ) (ops : Ops) (p : ℕ) → opAt (given q receiver ops) p ≡ cond (eqb p q) (givenTo receiver (opAt ops p)) (opAt ops p)
-unfolding given
-given-at q receiver ops p = rewritten-at (givenTo receiver) refl (ops .all) q p
+-- ---- operations rewritten
 
-pub size-given : (q receiver : ℕ) (ops : Ops) → size (given q receiver ops) ≡ size ops
-unfolding given
-size-given q receiver ops = refl
+changed-more : (n : ℕ) (f : ℕ → Operation → Operation) (l : List Operation) → set (changed n f l) n (f n (getD l n blank)) ≡ changed (n + 1) f l
+unfolding changed
+changed-more n f l = rw add-one refl
 
-pub length-given : (q receiver : ℕ) (ops : Ops) → length (given q receiver ops .all) ≡ length (ops .all)
-unfolding given
-length-given q receiver ops = length-set (ops .all) q (givenTo receiver (opAt ops q))
+changed-at : (n : ℕ) (f : ℕ → Operation → Operation) → ((p : ℕ) → f p blank ≡ blank)
+    → (l : List Operation) (p : ℕ) → getD (changed n f l) p blank ≡ cond (ltb p n) (f p (getD l p blank)) (getD l p blank)
+unfolding changed
+changed-at zero f z l p = rw (le-ltb p 0 (omega arith))
+changed-at (suc n) f z l p =
+    let here : getD (changed n f l) n blank ≡ getD l n blank = changed-at n f z l n ∙ rw (le-ltb n n (omega arith)) in
+    ap (λ (x : Operation). getD (set (changed n f l) n (f n x)) p blank) (sym here)
+    ∙ stored-over (f n) (z n) (changed n f l) n p
+    ∙ rw (changed-at n f z l p)
+    (same-or p n
+    (λ e. rw (eq-eqb p n e, le-ltb p n (omega arith), lt-ltb p (suc n) (omega arith)) (ap (λ (k : ℕ). f k (getD l p blank)) (sym e)))
+    (λ e.
+    rw (ne-eqb p n e)
+    (lt-or p n
+    (λ h. rw (lt-ltb p n h, lt-ltb p (suc n) (omega arith)))
+    (λ h. rw (le-ltb p n h, le-ltb p (suc n) (omega arith))))))
 
--- a list that has no place q
-pub given-past : (q receiver : ℕ) (ops : Ops) → length (ops .all) ≤ q → ops ≡ given q receiver ops
-unfolding given
-given-past q receiver ops h = λ i. record { all = sym (set-out (ops .all) q (givenTo receiver (opAt ops q)) h) i; count = ops .count }
+length-changed : (n : ℕ) (f : ℕ → Operation → Operation) (l : List Operation) → length (changed n f l) ≡ length l
+unfolding changed
+length-changed zero f l = refl
+length-changed (suc n) f l = length-set (changed n f l) n (f n (getD l n blank)) ∙ length-changed n f l
+
+-- a blank operation is left as it is
+module _ (which : ℕ → Operation → Bool) (how : Operation → Operation) (quiet : (p : ℕ) → which p blank ≡ false) (ops : Ops) where
+  pub rewritten-at : (p : ℕ) → opAt (rewritten which how ops) p ≡ cond (ltb p (size ops)) (rewrites which how p (opAt ops p)) (opAt ops p)
+  unfolding rewritten
+  rewritten-at p = changed-at (size ops) (rewrites which how) (λ k. rw (quiet k)) (ops .all) p
+
+  pub length-rewritten : length (rewritten which how ops .all) ≡ length (ops .all)
+  unfolding rewritten
+  length-rewritten = length-changed (size ops) (rewrites which how) (ops .all)
+
+  pub count-rewritten : rewritten which how ops .count ≡ ops .count
+  unfolding rewritten
+  count-rewritten = refl
+
+  -- what has the same operations is it
+  pub is-rewritten : (l : List Operation) → length l ≡ length (ops .all) → ((p : ℕ) → getD l p blank ≡ opAt (rewritten which how ops) p)
+      → record { all = l; count = ops .count } ≡ rewritten which how ops
+  unfolding rewritten
+  is-rewritten l e h = λ i. record { all = ext-getD blank l (rewritten which how ops .all) (e ∙ sym length-rewritten) (λ k b. h k) i; count = ops .count }
+
+-- one operation: the store of it, and none where there is no such
+module _ (q : ℕ) (how : Operation → Operation) (ops : Ops) where
+  pub one-stored : length (ops .all) ≡ mostOperations → q < size ops
+      → stored q ops (cond (isActive (opAt ops q .fate)) (how (opAt ops q)) (opAt ops q)) ≡ rewritten (onlyActive q) how ops
+  one-stored e l =
+      is-rewritten (onlyActive q) how (λ p. refl) ops (set (ops .all) q after) (length-set (ops .all) q after)
+      (λ p. stored-at (ops .all) q after (omega arith) p ∙ sym (rewritten-at (onlyActive q) how (λ k. refl) ops p ∙ there p))
+    where
+      after : Operation
+      after = cond (isActive (opAt ops q .fate)) (how (opAt ops q)) (opAt ops q)
+
+      there : (p : ℕ) → cond (ltb p (size ops)) (rewrites (onlyActive q) how p (opAt ops p)) (opAt ops p) ≡ cond (eqb p q) after (opAt ops p)
+      there p =
+          same-or p q
+          (λ g. rw (eq-eqb p q g, lt-ltb p (size ops) (omega arith), and-true (isActive (opAt ops p .fate))) (ap (λ (k : ℕ). cond (isActive (opAt ops k .fate)) (how (opAt ops k)) (opAt ops k)) g))
+          (λ g. rw (ne-eqb p q g, and-false (isActive (opAt ops p .fate))) (bool-cases (ltb p (size ops)) (λ b. rw b) (λ b. rw b)))
+
+  pub one-past : size ops ≤ q → ops ≡ rewritten (onlyActive q) how ops
+  one-past l =
+      is-rewritten (onlyActive q) how (λ p. refl) ops (ops .all) refl
+      (λ p. sym (rewritten-at (onlyActive q) how (λ k. refl) ops p ∙ there p))
+    where
+      there : (p : ℕ) → cond (ltb p (size ops)) (rewrites (onlyActive q) how p (opAt ops p)) (opAt ops p) ≡ opAt ops p
+      there p =
+          lt-or p (size ops)
+          (λ b. rw (lt-ltb p (size ops) b, ne-eqb p q (λ g. omega arith), and-false (isActive (opAt ops p .fate))))
+          (λ b. rw (le-ltb p (size ops) b))
 
 -- ---- ending
 
@@ -90,76 +152,11 @@ module _ (t : ℕ) (fate : Fate) (accepted : ℕ) (op : Operation) where
   pub ended-other : op .responsible ≢ t → op ≡ endedBy t fate accepted op
   ended-other e = rw (ne-eqb (op .responsible) t e, and-false (isActive (op .fate)))
 
--- an operation that ends alone
-
-pub one-at : (q : ℕ) (fate : Fate) (ops : Ops) (p : ℕ)
-    → opAt (endedOne q fate ops) p ≡ cond (eqb p q) (endedAlone fate (size ops) (opAt ops p)) (opAt ops p)
-unfolding endedOne
-one-at q fate ops p = rewritten-at (endedAlone fate (size ops)) refl (ops .all) q p
-
-pub size-one : (q : ℕ) (fate : Fate) (ops : Ops) → size (endedOne q fate ops) ≡ size ops
-unfolding endedOne
-size-one q fate ops = refl
-
-pub length-one : (q : ℕ) (fate : Fate) (ops : Ops) → length (endedOne q fate ops .all) ≡ length (ops .all)
-unfolding endedOne
-length-one q fate ops = length-set (ops .all) q (endedAlone fate (size ops) (opAt ops q))
-
--- a list that has no place q
-pub one-past : (q : ℕ) (fate : Fate) (ops : Ops) → length (ops .all) ≤ q → ops ≡ endedOne q fate ops
-unfolding endedOne
-one-past q fate ops h = λ i. record { all = sym (set-out (ops .all) q (endedAlone fate (size ops) (opAt ops q)) h) i; count = ops .count }
-
--- the first n rewritten
-
-changed-more : (n : ℕ) (f : Operation → Operation) (l : List Operation) → set (changed n f l) n (f (getD l n blank)) ≡ changed (n + 1) f l
-unfolding changed
-changed-more n f l = rw add-one refl
-
-changed-at : (n : ℕ) (f : Operation → Operation) → f blank ≡ blank
-    → (l : List Operation) (p : ℕ) → getD (changed n f l) p blank ≡ cond (ltb p n) (f (getD l p blank)) (getD l p blank)
-unfolding changed
-changed-at zero f z l p = rw (le-ltb p 0 (omega arith))
-changed-at (suc n) f z l p =
-    let here : getD (changed n f l) n blank ≡ getD l n blank = changed-at n f z l n ∙ rw (le-ltb n n (omega arith)) in
-    ap (λ (x : Operation). getD (set (changed n f l) n (f x)) p blank) (sym here)
-    ∙ rewritten-at f z (changed n f l) n p
-    ∙ rw (changed-at n f z l p)
-    (same-or p n
-    (λ e. rw (eq-eqb p n e, le-ltb p n (omega arith), lt-ltb p (suc n) (omega arith)))
-    (λ e.
-    rw (ne-eqb p n e)
-    (lt-or p n
-    (λ h. rw (lt-ltb p n h, lt-ltb p (suc n) (omega arith)))
-    (λ h. rw (le-ltb p n h, le-ltb p (suc n) (omega arith))))))
-
-length-changed : (n : ℕ) (f : Operation → Operation) (l : List Operation) → length (changed n f l) ≡ length l
-unfolding changed
-length-changed zero f l = refl
-length-changed (suc n) f l = length-set (changed n f l) n (f (getD l n blank)) ∙ length-changed n f l
-
-pub ended-at : (t : ℕ) (fate : Fate) (ops : Ops) (p : ℕ)
-    → opAt (endedOps t fate ops) p ≡ cond (ltb p (size ops)) (endedBy t fate (size ops) (opAt ops p)) (opAt ops p)
-unfolding endedOps
-ended-at t fate ops p = changed-at (size ops) (endedBy t fate (size ops)) refl (ops .all) p
-
-pub size-ended : (t : ℕ) (fate : Fate) (ops : Ops) → size (endedOps t fate ops) ≡ size ops
-unfolding endedOps
-size-ended t fate ops = refl
-
-pub length-ended : (t : ℕ) (fate : Fate) (ops : Ops) → length (endedOps t fate ops .all) ≡ length (ops .all)
-unfolding endedOps
-length-ended t fate ops = length-changed (size ops) (endedBy t fate (size ops)) (ops .all)
-
 -- ---- the loop that ends them: the first i are done
-
--- with another operation at place i
-abbrev pub stored : ℕ → Ops → Operation → Ops
-stored i ops op = record { all = set (ops .all) i op; count = ops .count }
 
 module _ (t : ℕ) (fate : Fate) (ops : Ops) (accepted : ℕ) where
   abbrev pub endedSoFar : ℕ → Ops
-  endedSoFar i = record { all = changed i (endedBy t fate accepted) (ops .all); count = ops .count }
+  endedSoFar i = record { all = changed i (rewrites (allHeldBy t) (endedAs fate accepted)) (ops .all); count = ops .count }
 
   pub ended-none : ops ≡ endedSoFar 0
   unfolding changed
@@ -168,8 +165,8 @@ module _ (t : ℕ) (fate : Fate) (ops : Ops) (accepted : ℕ) where
   pub ended-more : (i : ℕ) (next : Ops) (after : Operation) → next ≡ endedSoFar i → after ≡ endedBy t fate accepted (opAt ops i)
       → stored i next after ≡ endedSoFar (i + 1)
   ended-more i next after e r =
-      ap₂ (stored i) e r ∙ ap (λ (l : List Operation). record { all = l; count = ops .count }) (changed-more i (endedBy t fate accepted) (ops .all))
+      ap₂ (stored i) e r ∙ ap (λ (l : List Operation). record { all = l; count = ops .count }) (changed-more i (rewrites (allHeldBy t) (endedAs fate accepted)) (ops .all))
 
   pub ended-all : (i : ℕ) (next : Ops) → next ≡ endedSoFar i → accepted ≡ size ops → i ≡ size ops → next ≡ endedOps t fate ops
-  unfolding endedOps
+  unfolding rewritten
   ended-all i next e p q = rw (e, p, q)

@@ -58,15 +58,11 @@ unfoldable pub made : Operation → Ops → Ops
 made op ops = cond (ltb (ops .count) mostOperations) (record { all = set (ops .all) (ops .count) op; count = ops .count + 1 }) ops
 
 -- "its invoker until it is delegated, then the last receiver"; an operation that has ended keeps its responsible transaction
-abbrev pub givenTo : ℕ → Operation → Operation
-givenTo receiver op =
-    cond (isActive (op .fate))
-    (record { object = op .object; mark = op .mark; responsible = receiver; fate = op .fate; ended = op .ended })
-    op
+abbrev pub passedTo : ℕ → Operation → Operation
+passedTo receiver op = record { object = op .object; mark = op .mark; responsible = receiver; fate = op .fate; ended = op .ended }
 
--- operation q is delegated
-unfoldable pub given : ℕ → ℕ → Ops → Ops
-given q receiver ops = record { all = set (ops .all) q (givenTo receiver (opAt ops q)); count = ops .count }
+abbrev pub givenTo : ℕ → Operation → Operation
+givenTo receiver op = cond (isActive (op .fate)) (passedTo receiver op) op
 
 -- an active operation t is responsible for
 abbrev pub heldBy : ℕ → Operation → Bool
@@ -84,15 +80,35 @@ endedBy t fate accepted op = cond (heldBy t op) (endedAs fate accepted op) op
 abbrev pub endedAlone : Fate → ℕ → Operation → Operation
 endedAlone fate accepted op = cond (isActive (op .fate)) (endedAs fate accepted op) op
 
--- operation q ends alone
-unfoldable pub endedOne : ℕ → Fate → Ops → Ops
-endedOne q fate ops = record { all = set (ops .all) q (endedAlone fate (size ops) (opAt ops q)); count = ops .count }
+-- ---- operations rewritten: each for which `which` holds, by its number, becomes what `how` makes of it
 
 -- the first n rewritten by f
-unfoldable pub changed : ℕ → (Operation → Operation) → List Operation → List Operation
+unfoldable pub changed : ℕ → (ℕ → Operation → Operation) → List Operation → List Operation
 changed zero f l = l
-changed (suc n) f l = set (changed n f l) n (f (getD l n blank))
+changed (suc n) f l = set (changed n f l) n (f n (getD l n blank))
+
+abbrev pub rewrites : (ℕ → Operation → Bool) → (Operation → Operation) → ℕ → Operation → Operation
+rewrites which how p op = cond (which p op) (how op) op
+
+unfoldable pub rewritten : (ℕ → Operation → Bool) → (Operation → Operation) → Ops → Ops
+rewritten which how ops = record { all = changed (size ops) (rewrites which how) (ops .all); count = ops .count }
+
+-- operation q, if it is active
+abbrev pub onlyActive : ℕ → ℕ → Operation → Bool
+onlyActive q p op = isActive (op .fate) && eqb p q
+
+-- the active operations t is responsible for
+abbrev pub allHeldBy : ℕ → ℕ → Operation → Bool
+allHeldBy t p op = heldBy t op
+
+-- operation q is delegated
+abbrev pub given : ℕ → ℕ → Ops → Ops
+given q receiver ops = rewritten (onlyActive q) (passedTo receiver) ops
+
+-- operation q ends alone
+abbrev pub endedOne : ℕ → Fate → Ops → Ops
+endedOne q fate ops = rewritten (onlyActive q) (endedAs fate (size ops)) ops
 
 -- "Commit or abort of t ends the active operations t is responsible for in the same way, and no others."
-unfoldable pub endedOps : ℕ → Fate → Ops → Ops
-endedOps t fate ops = record { all = changed (size ops) (endedBy t fate (size ops)) (ops .all); count = ops .count }
+abbrev pub endedOps : ℕ → Fate → Ops → Ops
+endedOps t fate ops = rewritten (allHeldBy t) (endedAs fate (size ops)) ops

@@ -243,8 +243,9 @@ impl Ops {
     pub fn given(self, q: usize, receiver: u16) -> Ops
         ensures { λ r. ⌜ r ≡ given q receiver self ⌝ }
     {
+        let n = self.size();
         let mut next = self;
-        if q < Operation::MOST {
+        if q < n {
             let op = self.all[q];
             let after = op.given_to(receiver);
             next.all[q] = after;
@@ -259,7 +260,7 @@ impl Ops {
         let n = self.size();
         let accepted = n as u16;
         let mut next = self;
-        if q < Operation::MOST {
+        if q < n {
             let op = self.all[q];
             let after = op.ended_alone(fate, accepted);
             next.all[q] = after;

@@ -1,12 +1,15 @@
 use native.Mathlib.Omega.{arith}
-use mathlib.Core.Path.{_≡_, ap}
+use mathlib.Core.Path.{_≡_, ap, _∙_}
 use lib.ListN.{length}
 use Rattle.laws.proofs.ListLaws.{length-mapped}
-use Rattle.ties.specs.Operations.{given}
-use Rattle.ties.proofs.OpsLaws.{stored, given-past}
+use Rattle.ties.specs.Operations.{passedTo}
+use Rattle.ties.proofs.OpsLaws.{stored, one-past, one-stored}
 use borrow.Author.Needs.{needs}
 use Rattle.ties.proofs.Ops.given.Statement.{statement}
 use Rattle.ties.proofs.Ops.given.Tie as tie
+
+size-requires : tie.Need-size-requires
+size-requires c κs = search needs
 
 mul-op : tie.Need-mul-op
 mul-op c = search needs
@@ -24,18 +27,20 @@ element-set-from-after : tie.Need-element-set-from-after
 element-set-from-after c = search needs
 
 returns : tie.Need-returns
-unfolding given
-returns c = ap (stored (c .before .before .before .args .q) (c .before .before .before .args .t1)) (c .given-to .ensures)
+returns c =
+    let a = c .before .before .before .before .args in
+    let whole : length (a .t1 .all) ≡ 256 = search (needs, length-mapped) in
+    ap (stored (a .q) (a .t1)) (c .given-to .ensures)
+    ∙ one-stored (a .q) (passedTo (a .receiver)) (a .t1) whole (omega arith)
 
 returns-2 : tie.Need-returns-2
-returns-2 c =
-    let whole : length (c .before .args .t1 .all) ≡ 256 = search (needs, length-mapped) in
-    given-past (c .before .args .q) (c .before .args .receiver) (c .before .args .t1) (omega arith)
+returns-2 c = let a = c .before .before .args in one-past (a .q) (passedTo (a .receiver)) (a .t1) (omega arith)
 
 pub given-spec : {M : Type 1} → statement M
 given-spec =
     tie.close
     (tie.spec
+    size-requires
     mul-op
     element-copy-out-op
     given-to-requires

@@ -1,5 +1,4 @@
 -- One event, accepted or refused; runs of events; what every accepted event keeps holds after any events.
-use Prim.Native.Nat.{ℕ}
 use native.Mathlib.Omega.{arith}
 use mathlib.Core.Path.{_≡_, refl, ap}
 use mathlib.Core.List.{List, [], _∷_, _++_}
@@ -9,14 +8,12 @@ use Rattle.terms.specs.declared.Refusal.{Refusal}
 use Rattle.terms.specs.declared.Verdict.{Verdict}
 use Rattle.terms.specs.declared.Verdict.the-variants.{Accepted, Refused}
 use Rattle.tables.specs.declared.Tables.{Tables}
-use Rattle.judge.specs.Histories.{next, run, taken}
+use Rattle.histories.specs.Histories.{next, run, taken}
 use Rattle.judge.specs.Judge.{changeBy, changeOf, judged, lines, rulingOf, stateAfter}
-use Rattle.judge.specs.Promises.{OneEvent}
+use Rattle.histories.specs.Promises.{OneEvent}
 use Rattle.judge.specs.declared.Event.{Event}
 use Rattle.judge.specs.declared.State.{State}
-
-pub not-accepted : (r : Refusal) → Refused r ≡ Accepted → ⊥
-not-accepted r e = let z : _≡_ {A = ℕ} 0 1 = cc in omega arith
+use Rattle.judge.proofs.RuleLaws.{not-accepted}
 
 same-refusal : (r q : Refusal) → Refused r ≡ Refused q → r ≡ q
 same-refusal r q e = cc

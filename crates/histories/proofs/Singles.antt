@@ -1,34 +1,33 @@
 -- One operation ended alone: when it is accepted, and that nothing else changes.
-use Prim.Native.Nat.{ℕ, _<_}
+use Prim.Native.Nat.{ℕ}
 use native.Mathlib.Omega.{arith}
-use mathlib.Core.Path.{_≡_, refl, sym, ap, subst, _∙_}
-use mathlib.Core.Bool.{Bool, true, false, not, _&&_, _||_, false≢true}
+use mathlib.Core.Path.{_≡_, refl, sym, subst, _∙_}
+use mathlib.Core.Bool.{true, false, not, _&&_, _||_, and-false, false≢true}
 use lib.Dec.{ltb, eqb}
-use borrow.Author.Tests.{eq-eqb, eqb-true, lt-ltb}
+use borrow.Author.Tests.{eq-eqb, lt-ltb, ne-eqb}
 use Rattle.laws.specs.Index.{anyBelow}
-use Rattle.laws.specs.Lines.{Off}
-use Rattle.laws.proofs.Bools.{and-off, and-on, and-rest, bool-cases, clash, not-off, off-not, off-or, on-and, on-not}
+use Rattle.laws.proofs.Bools.{and-off, and-rest, bool-cases, not-off, off-not, on-and, on-not}
 use Rattle.laws.proofs.Decisions.{same-or}
 use Rattle.laws.proofs.IndexLaws.{any-off, off-any}
 use Rattle.terms.specs.declared.Verdict.the-variants.{Accepted}
-use Rattle.ties.specs.Operations.{endedOne, isAborted as isAbortedOp, isActive as isActiveOp, isWrite, opAt, size}
-use Rattle.ties.specs.Ties.{cleanFor, dirties, dirtyAt, onRing, readBy, tied, tiedTo}
+use Rattle.ties.specs.Operations.{endedAs, isAborted as isAbortedOp, isActive as isActiveOp, isWrite, onlyActive, opAt, size}
+use Rattle.ties.specs.Ties.{cleanFor, dirties, dirtyAt, readBy, tied, tiedTo}
 use Rattle.ties.specs.declared.Fate.{Fate}
 use Rattle.ties.specs.declared.Fate.the-variants.{Aborted as FateAborted, Active as FateActive, Committed as FateCommitted}
-use Rattle.ties.proofs.OpsLaws.{one-at}
+use Rattle.ties.proofs.OpsLaws.{count-rewritten, rewritten-at}
 use Rattle.ties.proofs.TieLaws.{tie-made, tie-parts}
 use Rattle.tables.specs.Sorts.{isKnown, isPlain, sortOf}
 use Rattle.tables.specs.declared.Sort.{Sort}
 use Rattle.tables.specs.declared.Sort.the-variants.{Plain, Saga, Step, Undo, Unknown}
 use Rattle.tables.specs.declared.Tables.{Tables}
-use Rattle.judge.specs.Judge.{judged, singleLines, stateAfter, unknown}
-use Rattle.judge.specs.Promises.{EndedAlone, MayCommitOne, MayEndOne, OnlyEnds}
+use Rattle.judge.specs.Judge.{judged, stateAfter, unknown}
+use Rattle.histories.specs.Promises.{EndedAlone, MayCommitOne, MayEndOne, OnlyEnds}
 use Rattle.judge.specs.States.{isActive, phaseOf}
 use Rattle.judge.specs.declared.Change.the-variants.{EndsOne}
 use Rattle.judge.specs.declared.Event.the-variants.{AbortOne, CommitOne}
 use Rattle.judge.specs.declared.State.{State}
-use Rattle.judge.proofs.RuleLaws.{single-known}
-use Rattle.judge.proofs.RunLaws.{lines-off, next-ok, off-lines}
+use Rattle.histories.proofs.RunLaws.{lines-off, next-ok, off-lines}
+use Rattle.histories.proofs.Steps.{commit-one-may, single-may}
 
 plain-known : (x : Sort) → isPlain x ≡ true → not (isKnown x) ≡ false
 plain-known (Saga f n) e = absurd (false≢true e)
@@ -43,17 +42,6 @@ active-stands FateActive e = refl
 active-stands FateCommitted e = refl
 
 module _ (tables : Tables) (s : State) (t q : ℕ) where
-  -- the lines that a single commit and a single abort share
-  shared-may : Off (singleLines tables (s .transactions) (s .ops) t q) → MayEndOne tables s t q
-  shared-may off =
-      record {
-        plain = off-not (isPlain (sortOf tables t)) (off .1 .0);
-        active = off-not (isActive (phaseOf (s .transactions) t)) (off .1 .1 .0);
-        accepted = single-known tables (s .ops) t q (off .0);
-        mine = eqb-true (opAt (s .ops) q .responsible) t (off-not (eqb (opAt (s .ops) q .responsible) t) (off .1 .1 .1 .0));
-        running = off-not (isActiveOp (opAt (s .ops) q .fate)) (off .1 .1 .1 .1 .0);
-      }
-
   module _ (may : MayEndOne tables s t q) where
     known : (unknown tables t || not (ltb q (size (s .ops)))) ≡ false
     known = rw (plain-known (sortOf tables t) (may .plain), lt-ltb q (size (s .ops)) (may .accepted))
@@ -105,9 +93,8 @@ module _ (tables : Tables) (s : State) (t q : ℕ) where
 
   commit-may : judged tables s (CommitOne t q) .verdict ≡ Accepted → MayCommitOne tables s t q
   commit-may v =
-      let off = lines-off tables s (CommitOne t q) v in
-      let may = shared-may (off .0, (off .1 .0, (off .1 .1 .0, (off .1 .1 .1 .0, (off .1 .1 .1 .1 .0, tt))))) in
-      record { may-end = may; clean = dirty-clean may (off .1 .1 .1 .1 .1 .0); off-rings = off .1 .1 .1 .1 .1 .1 .0 }
+      let may = commit-one-may tables s t q (lines-off tables s (CommitOne t q) v) in
+      record { may-end = may .0; clean = dirty-clean (may .0) (may .1); off-rings = may .2 }
 
   may-commit : MayCommitOne tables s t q → judged tables s (CommitOne t q) .verdict ≡ Accepted
   may-commit may =
@@ -116,22 +103,22 @@ module _ (tables : Tables) (s : State) (t q : ℕ) where
       (known end, (not-plain end, (not-active end, (not-mine end, (not-running end, (clean-dirty end (may .clean), (may .off-rings, tt)))))))
 
   abort-may : judged tables s (AbortOne t q) .verdict ≡ Accepted → MayEndOne tables s t q
-  abort-may v = shared-may (lines-off tables s (AbortOne t q) v)
+  abort-may v = single-may tables s t q (lines-off tables s (AbortOne t q) v)
 
   may-abort : MayEndOne tables s t q → judged tables s (AbortOne t q) .verdict ≡ Accepted
   may-abort end = off-lines tables s (AbortOne t q) (known end, (not-plain end, (not-active end, (not-mine end, (not-running end, tt)))))
 
-  only-ends : (fate : Fate) → isActiveOp (opAt (s .ops) q .fate) ≡ true → OnlyEnds s (stateAfter (EndsOne q fate) s) q fate
-  unfolding stateAfter endedOne
-  only-ends fate running =
+  only-ends : (fate : Fate) → MayEndOne tables s t q → OnlyEnds s (stateAfter (EndsOne q fate) s) q fate
+  unfolding stateAfter
+  only-ends fate may =
       record {
         transactions = refl;
-        count = refl;
+        count = count-rewritten (onlyActive q) (endedAs fate (size (s .ops))) (λ k. refl) (s .ops);
         operations = λ p.
-            one-at q fate (s .ops) p
+            rewritten-at (onlyActive q) (endedAs fate (size (s .ops))) (λ k. refl) (s .ops) p
             ∙ same-or p q
-            (λ e. rw (eq-eqb p q e, e, running))
-            (λ e. bool-cases (eqb p q) (λ b. absurd (e (eqb-true p q b))) (λ b. rw b));
+            (λ e. rw (eq-eqb p q e, e, lt-ltb q (size (s .ops)) (may .accepted), may .running))
+            (λ e. rw (ne-eqb p q e, and-false (isActiveOp (opAt (s .ops) p .fate))) (bool-cases (ltb p (size (s .ops))) (λ b. rw b) (λ b. rw b)));
       }
 
 pub ended-alone : (tables : Tables) (s : State) (t q : ℕ) → EndedAlone tables s t q
@@ -140,9 +127,9 @@ ended-alone tables s t q =
       commit-accepted = (commit-may tables s t q, may-commit tables s t q);
       commit-ends = λ v.
           subst (λ (x : State). OnlyEnds s x q FateCommitted) (sym (next-ok tables s (CommitOne t q) v))
-          (only-ends tables s t q FateCommitted (commit-may tables s t q v .may-end .running));
+          (only-ends tables s t q FateCommitted (commit-may tables s t q v .may-end));
       abort-accepted = (abort-may tables s t q, may-abort tables s t q);
       abort-ends = λ v.
           subst (λ (x : State). OnlyEnds s x q FateAborted) (sym (next-ok tables s (AbortOne t q) v))
-          (only-ends tables s t q FateAborted (abort-may tables s t q v .running));
+          (only-ends tables s t q FateAborted (abort-may tables s t q v));
     }

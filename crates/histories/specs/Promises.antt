@@ -16,13 +16,13 @@ use Rattle.sets.specs.Reach.{Leads}
 use Rattle.tables.specs.Circles.{beginLink}
 use Rattle.tables.specs.Sorts.{isPlain, sortOf}
 use Rattle.tables.specs.declared.Tables.{Tables}
 use Rattle.judge.specs.declared.Phase.the-variants.{Idle}
 use Rattle.judge.specs.declared.State.{State}
 use Rattle.judge.specs.declared.Event.{Event}
 use Rattle.judge.specs.declared.Event.the-variants.{Commit, Abort, CommitOne, AbortOne}
 use Rattle.judge.specs.States.{isActive, phaseOf, emptyState}
 use Rattle.judge.specs.Judge.{lines, judged}
-use Rattle.judge.specs.Histories.{run, reached, history, responsibleIn, whenMade}
+use Rattle.histories.specs.Histories.{run, reached, history, responsibleIn, whenMade}
 
 -- one event, in any state
 pub record OneEvent (tables : Tables) (s : State) (e : Event) : Type 0 where

@@ -1,35 +1,35 @@
 -- The promises of judging, proved.
 use Prim.Native.Nat.{ℕ}
-use mathlib.Core.Path.{_≡_, sym, subst, _∙_}
+use mathlib.Core.Path.{_≡_, refl, sym, subst, _∙_}
 use mathlib.Core.List.{List}
 use mathlib.Core.Bool.{true}
 use borrow.Author.Tests.{lt-ltb}
-use Rattle.ties.specs.Operations.{opAt, size}
+use Rattle.ties.specs.Operations.{allHeldBy, endedAs, opAt, size}
 use Rattle.ties.specs.declared.Fate.{Fate}
 use Rattle.ties.specs.declared.Fate.the-variants.{Aborted as FateAborted, Committed as FateCommitted}
-use Rattle.ties.proofs.OpsLaws.{ended-at}
+use Rattle.ties.proofs.OpsLaws.{rewritten-at}
 use Rattle.tables.specs.declared.Tables.{Tables}
-use Rattle.judge.specs.Histories.{reached}
+use Rattle.histories.specs.Histories.{reached}
 use Rattle.judge.specs.Judge.{stateAfter}
-use Rattle.judge.specs.Promises.{AnyRun, EndsWith, JudgePromises}
+use Rattle.histories.specs.Promises.{AnyRun, EndsWith, JudgePromises}
 use Rattle.judge.specs.States.{isActive, phaseOf}
 use Rattle.judge.specs.declared.Change.the-variants.{Ends}
 use Rattle.judge.specs.declared.Event.{Event}
 use Rattle.judge.specs.declared.Event.the-variants.{Abort, Commit}
 use Rattle.judge.specs.declared.Phase.{Phase}
 use Rattle.judge.specs.declared.Phase.the-variants.{Aborted, Committed}
 use Rattle.judge.specs.declared.State.{State}
-use Rattle.judge.proofs.CircleIdle.{never-begins}
-use Rattle.judge.proofs.Invariants.{lasting}
+use Rattle.histories.proofs.CircleIdle.{never-begins}
+use Rattle.histories.proofs.Invariants.{lasting}
 use Rattle.judge.proofs.PhaseLaws.{code, of-active}
-use Rattle.judge.proofs.Responsible.{responsible-told}
-use Rattle.judge.proofs.RunLaws.{next-ok, one-event}
-use Rattle.judge.proofs.Singles.{ended-alone}
-use Rattle.judge.proofs.TiesMean.{ties-mean}
+use Rattle.histories.proofs.Responsible.{responsible-told}
+use Rattle.histories.proofs.RunLaws.{next-ok, one-event}
+use Rattle.histories.proofs.Singles.{ended-alone}
+use Rattle.histories.proofs.TiesMean.{ties-mean}
 
 ends-with : (s : State) (t : ℕ) (phase : Phase) (fate : Fate) → EndsWith s (stateAfter (Ends t phase fate) s) t fate
 unfolding stateAfter
-ends-with s t phase fate q l = ended-at t fate (s .ops) q ∙ rw (lt-ltb q (size (s .ops)) l)
+ends-with s t phase fate q l = rewritten-at (allHeldBy t) (endedAs fate (size (s .ops))) (λ k. refl) (s .ops) q ∙ rw (lt-ltb q (size (s .ops)) l)
 
 any-run : (tables : Tables) (es : List Event) → AnyRun tables es
 any-run tables es =

@@ -1,0 +1,150 @@
+-- What an accepted event is: for each change, what held when it was accepted. The one place that takes lines by their order.
+use Prim.Native.Nat.{ℕ, _<_, _≤_}
+use native.Mathlib.Omega.{arith}
+use mathlib.Core.Path.{_≡_, refl, sym, subst}
+use mathlib.Core.Bool.{true, false, not, _&&_, _||_}
+use mathlib.Core.List.{List}
+use lib.Dec.{eqb}
+use borrow.Author.Tests.{eqb-true, leb-false}
+use Rattle.laws.specs.Lines.{Off}
+use Rattle.laws.proofs.Bools.{off-not, off-or}
+use Rattle.terms.specs.declared.Verdict.the-variants.{Accepted}
+use Rattle.ties.specs.Operations.{isActive as isActiveOp, mostOperations, newOp, opAt, size}
+use Rattle.ties.specs.Ties.{mustWait, dirty, dirtyAt, onRing}
+use Rattle.ties.specs.declared.Fate.{Fate}
+use Rattle.ties.specs.declared.Fate.the-variants.{Aborted as FateAborted, Committed as FateCommitted}
+use Rattle.ties.specs.declared.Mark.{Mark}
+use Rattle.tables.specs.Sorts.{isPlain, isSaga, isUndo, sortOf}
+use Rattle.tables.specs.declared.Tables.{Tables}
+use Rattle.histories.specs.Histories.{next, run}
+use Rattle.judge.specs.Judge.{changeOf, commitOneLines, inactive, judged, lines, noParty, singleLines, stateAfter}
+use Rattle.histories.specs.Promises.{MayEndOne}
+use Rattle.judge.specs.Rules.{abortBarred, beginBarred, commitBarred, declaredBars}
+use Rattle.judge.specs.States.{isActive, isIdle, phaseOf}
+use Rattle.judge.specs.declared.Change.{Change}
+use Rattle.judge.specs.declared.Change.the-variants.{Ends, EndsOne, Enters, Gives, Makes}
+use Rattle.judge.specs.declared.Event.{Event}
+use Rattle.judge.specs.declared.Event.the-variants.{Abort, AbortOne, Begin, Commit, CommitOne, Delegate, Operation as Invoke}
+use Rattle.judge.specs.declared.Phase.{Phase}
+use Rattle.judge.specs.declared.Phase.the-variants.{Aborted, Active, Committed, Idle}
+use Rattle.judge.specs.declared.State.{State}
+use Rattle.judge.proofs.PhaseLaws.{active-is, code, idle-is}
+use Rattle.judge.proofs.RuleLaws.{operation-known, single-known}
+use Rattle.histories.proofs.RunLaws.{by-verdict, keeps, lines-off, next-no, next-ok}
+
+module _ (tables : Tables) (s : State) where
+  pub record Entering (t : ℕ) : Type 0 where
+    pub idle : code (phaseOf (s .transactions) t) ≡ 0
+    pub rule : beginBarred (s .transactions) (sortOf tables t) ≡ false
+    pub declared : declaredBars true tables (s .transactions) t ≡ false
+
+  -- what a commit has to pass beyond what every end has, and what an abort
+  abbrev pub EndRule : ℕ → Phase → Type 0
+  EndRule t Idle = ⊥
+  EndRule t Active = ⊥
+  EndRule t Committed =
+      (commitBarred (s .transactions) (sortOf tables t) ≡ false)
+      × (declaredBars false tables (s .transactions) t ≡ false)
+      × (dirty (s .ops) t ≡ false)
+      × (onRing (s .ops) t ≡ false)
+  EndRule t Aborted = (isUndo (sortOf tables t) ≡ false) × (abortBarred (s .transactions) (sortOf tables t) ≡ false)
+
+  pub record Ending (t : ℕ) (p : Phase) (fate : Fate) : Type 0 where
+    pub active : code (phaseOf (s .transactions) t) ≡ 1
+    pub ended : 2 ≤ code p
+    pub gone : isActiveOp fate ≡ false
+    pub rule : EndRule t p
+
+  pub record EndingOne (t q : ℕ) (fate : Fate) : Type 0 where
+    pub may : MayEndOne tables s t q
+    pub gone : isActiveOp fate ≡ false
+
+  pub record Making (t o : ℕ) (m : Mark) : Type 0 where
+    pub room : s .ops .count < mostOperations
+    pub active : code (phaseOf (s .transactions) t) ≡ 1
+    pub no-saga : isSaga (sortOf tables t) ≡ false
+    pub waited : (isUndo (sortOf tables t) && mustWait (s .ops) t o m) ≡ false
+
+  pub record Giving (t r q : ℕ) : Type 0 where
+    pub accepted : q < size (s .ops)
+    pub giver : code (phaseOf (s .transactions) t) ≡ 1
+    pub receiver : code (phaseOf (s .transactions) r) ≡ 1
+    pub gives : noParty (sortOf tables t) ≡ false
+    pub receives : noParty (sortOf tables r) ≡ false
+    pub from : opAt (s .ops) q .responsible ≡ t
+
+  pub data Step : Change → Type 0 where
+    enters : (t : ℕ) → Entering t → Step (Enters t Active)
+    ends : (t : ℕ) (p : Phase) (fate : Fate) → Ending t p fate → Step (Ends t p fate)
+    ends-one : (t q : ℕ) (fate : Fate) → EndingOne t q fate → Step (EndsOne q fate)
+    makes : (t o : ℕ) (m : Mark) → Making t o m → Step (Makes (newOp t o m))
+    gives : (t r q : ℕ) → Giving t r q → Step (Gives q r)
+
+  -- a step of a known change
+  pub entering : {t : ℕ} → Step (Enters t Active) → Entering t
+  entering (enters t f) = f
+
+  pub ending : {t : ℕ} {p : Phase} {fate : Fate} → Step (Ends t p fate) → Ending t p fate
+  ending (ends t p fate f) = f
+
+  -- ---- the lines of an accepted event, each by a name
+
+  running : (t : ℕ) → inactive (s .transactions) t ≡ false → code (phaseOf (s .transactions) t) ≡ 1
+  running t off = active-is (phaseOf (s .transactions) t) (off-not (isActive (phaseOf (s .transactions) t)) off)
+
+  mine : (t q : ℕ) → not (eqb (opAt (s .ops) q .responsible) t) ≡ false → opAt (s .ops) q .responsible ≡ t
+  mine t q off = eqb-true (opAt (s .ops) q .responsible) t (off-not (eqb (opAt (s .ops) q .responsible) t) off)
+
+  pub single-may : (t q : ℕ) → Off (singleLines tables (s .transactions) (s .ops) t q) → MayEndOne tables s t q
+  single-may t q (known, (plain, (active, (own, (unended, u))))) =
+      record {
+        plain = off-not (isPlain (sortOf tables t)) plain;
+        active = off-not (isActive (phaseOf (s .transactions) t)) active;
+        accepted = single-known tables (s .ops) t q known;
+        mine = mine t q own;
+        running = off-not (isActiveOp (opAt (s .ops) q .fate)) unended;
+      }
+
+  pub commit-one-may : (t q : ℕ) → Off (commitOneLines tables (s .transactions) (s .ops) t q)
+      → MayEndOne tables s t q × (dirtyAt (s .ops) t q ≡ false) × (onRing (s .ops) t ≡ false)
+  commit-one-may t q (known, (plain, (active, (own, (unended, (clean, (no-ring, u))))))) =
+      (single-may t q (known, (plain, (active, (own, (unended, tt))))), clean, no-ring)
+
+  step-off : (e : Event) → Off (lines tables s e) → Step (changeOf e)
+  step-off (Begin t) (known, (idle, (rule, (declared, u)))) =
+      enters t (record { idle = idle-is (phaseOf (s .transactions) t) (off-not (isIdle (phaseOf (s .transactions) t)) idle); rule = rule; declared = declared })
+  step-off (Commit t) (known, (active, (rule, (declared, (clean, (no-ring, u)))))) =
+      ends t Committed FateCommitted (record { active = running t active; ended = omega arith; gone = refl; rule = (rule, declared, clean, no-ring) })
+  step-off (Abort t) (known, (no-undo, (active, (rule, u)))) =
+      ends t Aborted FateAborted (record { active = running t active; ended = omega arith; gone = refl; rule = (no-undo, rule) })
+  step-off (Invoke t o m) (known, (no-saga, (active, (waited, (room, u))))) =
+      makes t o m (record { room = leb-false mostOperations (s .ops .count) room; active = running t active; no-saga = no-saga; waited = waited })
+  step-off (Delegate t r q) (known, (parties, (active, (own, u)))) =
+      let both = off-or (noParty (sortOf tables t)) (noParty (sortOf tables r) || eqb t r) parties in
+      let actives = off-or (inactive (s .transactions) t) (inactive (s .transactions) r) active in
+      gives t r q
+      (record {
+        accepted = operation-known tables (s .ops) t r q known;
+        giver = running t (actives .0);
+        receiver = running r (actives .1);
+        gives = both .0;
+        receives = off-or (noParty (sortOf tables r)) (eqb t r) (both .1) .0;
+        from = mine t q own;
+      })
+  step-off (CommitOne t q) off = ends-one t q FateCommitted (record { may = commit-one-may t q off .0; gone = refl })
+  step-off (AbortOne t q) off = ends-one t q FateAborted (record { may = single-may t q off; gone = refl })
+
+pub step : (tables : Tables) (s : State) (e : Event) → judged tables s e .verdict ≡ Accepted → Step tables s (changeOf e)
+step tables s e v = step-off tables s e (lines-off tables s e v)
+
+-- what every accepted event keeps holds after any events
+pub keeps-by : (tables : Tables) (I : State → Type 0) → ((s : State) (c : Change) → I s → Step tables s c → I (stateAfter c s))
+    → (es : List Event) (s : State) → I s → I (run tables s es)
+keeps-by tables I h = keeps tables I (λ s e i v. h s (changeOf e) i (step tables s e v))
+
+-- the state after one event: as it was, or after a step
+pub by-next : (tables : Tables) (s : State) (e : Event) (I : State → Type 0) → I s → ((c : Change) → Step tables s c → I (stateAfter c s)) → I (next tables s e)
+by-next tables s e I same after =
+    by-verdict tables s e
+    (λ v. subst I (sym (next-ok tables s e v)) (after (changeOf e) (step tables s e v)))
+    (λ r v. subst I (sym (next-no tables s e r v)) same)

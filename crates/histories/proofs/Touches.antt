@@ -1,0 +1,330 @@
+-- What an accepted event does to one transaction, and to one operation that was accepted before it. Whatever speaks of single transactions
+-- or operations goes by these two, not by the events.
+use Prim.Native.Nat.{ℕ, _+_, _<_, _≤_}
+use native.Mathlib.Omega.{arith}
+use mathlib.Core.Path.{_≡_, refl, sym, ap, subst, _∙_}
+use mathlib.Core.Bool.{Bool, true, false, cond}
+use mathlib.Core.Logic.{_≢_, _⊎_, inl, inr}
+use lib.Dec.{eqb}
+use lib.ListN.{length}
+use borrow.Author.Tests.{eqb-true, eq-eqb, le-ltb, lt-ltb, ne-eqb}
+use Rattle.laws.proofs.Bools.{and-on, bool-cases, clash, on-and}
+use Rattle.laws.proofs.Decisions.{lt-or, same-or}
+use Rattle.ties.specs.Operations.{allHeldBy, endedAs, blank, heldBy, isActive as isActiveOp, newOp, onlyActive, opAt, passedTo, rewritten, size}
+use Rattle.ties.specs.Ties.{wasActive}
+use Rattle.ties.specs.declared.Fate.{Fate}
+use Rattle.ties.specs.declared.Mark.{Mark}
+use Rattle.ties.specs.declared.Operation.{Operation}
+use Rattle.ties.specs.declared.Ops.{Ops}
+use Rattle.ties.proofs.OpsLaws.{count-rewritten, length-made, length-rewritten, made-at, made-room, rewritten-at}
+use Rattle.tables.specs.Sorts.{sortOf}
+use Rattle.tables.specs.declared.Tables.{Tables}
+use Rattle.judge.specs.Judge.{noParty, stateAfter}
+use Rattle.histories.specs.Promises.{MayEndOne}
+use Rattle.judge.specs.States.{entered, phaseOf}
+use Rattle.judge.specs.declared.Change.{Change}
+use Rattle.judge.specs.declared.Change.the-variants.{Ends, EndsOne, Enters, Gives, Makes, Nothing}
+use Rattle.judge.specs.declared.Phase.{Phase}
+use Rattle.judge.specs.declared.Phase.the-variants.{Active}
+use Rattle.judge.specs.declared.State.{State}
+use Rattle.histories.proofs.Lasts.{Lasting, size-count}
+use Rattle.judge.proofs.PhaseLaws.{code}
+use Rattle.judge.proofs.StateLaws.{entered-other, entered-same, length-entered, past-idle}
+use Rattle.histories.proofs.Steps.{Ending, EndingOne, Entering, Giving, Making, Step, ends, ends-one, enters, gives, makes}
+
+-- the change ends operation q alone
+abbrev pub endsAlone : Change → ℕ → Bool
+endsAlone Nothing q = false
+endsAlone (Enters t p) q = false
+endsAlone (Ends t p fate) q = false
+endsAlone (EndsOne p fate) q = eqb p q
+endsAlone (Makes op) q = false
+endsAlone (Gives p r) q = false
+
+module _ (tables : Tables) (s : State) (c : Change) where
+  abbrev after : State
+  after = stateAfter c s
+
+  -- ---- a transaction
+
+  pub data Phased (u : ℕ) : Type 0 where
+    as-was : phaseOf (after .transactions) u ≡ phaseOf (s .transactions) u → Phased u
+    entered-now : Entering tables s u → phaseOf (after .transactions) u ≡ Active → Phased u
+    ended-now : (p : Phase) → code (phaseOf (s .transactions) u) ≡ 1 → 2 ≤ code p → phaseOf (after .transactions) u ≡ p → Phased u
+
+  -- ---- an operation
+
+  -- it stays as it is, and if it is active so does whoever is responsible for it
+  pub record KeptNow (p : ℕ) : Type 0 where
+    pub low : p < s .ops .count
+    pub still : isActiveOp (opAt (s .ops) p .fate) ≡ true → code (phaseOf (after .transactions) (opAt (s .ops) p .responsible)) ≡ 1
+    pub now : opAt (after .ops) p ≡ opAt (s .ops) p
+
+  -- it ends with its transaction, or alone
+  pub record EndedNow (p : ℕ) (fate : Fate) : Type 0 where
+    pub active : isActiveOp (opAt (s .ops) p .fate) ≡ true
+    pub gone : isActiveOp fate ≡ false
+    pub how : (2 ≤ code (phaseOf (after .transactions) (opAt (s .ops) p .responsible))) ⊎ (endsAlone c p ≡ true)
+    pub now : opAt (after .ops) p ≡ endedAs fate (size (s .ops)) (opAt (s .ops) p)
+
+  -- it is given to r
+  pub record PassedNow (p r : ℕ) : Type 0 where
+    pub active : isActiveOp (opAt (s .ops) p .fate) ≡ true
+    pub gives : noParty (sortOf tables (opAt (s .ops) p .responsible)) ≡ false
+    pub receives : noParty (sortOf tables r) ≡ false
+    pub runs : code (phaseOf (after .transactions) r) ≡ 1
+    pub now : opAt (after .ops) p ≡ passedTo r (opAt (s .ops) p)
+
+  pub data Touched (p : ℕ) : Type 0 where
+    kept : KeptNow p → Touched p
+    ended : (fate : Fate) → EndedNow p fate → Touched p
+    passed : (r : ℕ) → PassedNow p r → Touched p
+
+  -- ---- what follows for each
+
+  module _ {p : ℕ} where
+    pub same-object : Touched p → opAt (after .ops) p .object ≡ opAt (s .ops) p .object
+    same-object (kept f) = ap (λ (x : Operation). x .object) (f .now)
+    same-object (ended fate f) = ap (λ (x : Operation). x .object) (f .now)
+    same-object (passed r f) = ap (λ (x : Operation). x .object) (f .now)
+
+    pub same-mark : Touched p → opAt (after .ops) p .mark ≡ opAt (s .ops) p .mark
+    same-mark (kept f) = ap (λ (x : Operation). x .mark) (f .now)
+    same-mark (ended fate f) = ap (λ (x : Operation). x .mark) (f .now)
+    same-mark (passed r f) = ap (λ (x : Operation). x .mark) (f .now)
+
+    -- what was active when q was accepted stays so
+    pub same-was : (q : ℕ) → q < size (s .ops) → Touched p → wasActive (opAt (after .ops) p) q ≡ wasActive (opAt (s .ops) p) q
+    same-was q l (kept f) = ap (λ (x : Operation). wasActive x q) (f .now)
+    same-was q l (ended fate f) = ap (λ (x : Operation). wasActive x q) (f .now) ∙ rw (f .gone, f .active, lt-ltb q (size (s .ops)) l)
+    same-was q l (passed r f) = ap (λ (x : Operation). wasActive x q) (f .now)
+
+    -- whose it is: as before, or it was given
+    pub by-whose : {A : Type 0} → Touched p → (opAt (after .ops) p .responsible ≡ opAt (s .ops) p .responsible → A) → ((r : ℕ) → PassedNow p r → A) → A
+    by-whose (kept f) same given = same (ap (λ (x : Operation). x .responsible) (f .now))
+    by-whose (ended fate f) same given = same (ap (λ (x : Operation). x .responsible) (f .now))
+    by-whose (passed r f) same given = given r f
+
+  module _ {u : ℕ} where
+    pub rises : Phased u → code (phaseOf (s .transactions) u) ≤ code (phaseOf (after .transactions) u)
+    rises (as-was e) = omega (arith, ap code e)
+    rises (entered-now f e) = omega (arith, f .idle)
+    rises (ended-now p a d e) = omega (arith, ap code e)
+
+    pub stays-over : 2 ≤ code (phaseOf (s .transactions) u) → Phased u → 2 ≤ code (phaseOf (after .transactions) u)
+    stays-over h w = omega (arith, rises w)
+
+-- ---- by the step
+
+entered-at : (s : State) (u t : ℕ) (p : Phase) {A : Type 0}
+    → (phaseOf (entered p t (s .transactions)) u ≡ phaseOf (s .transactions) u → A)
+    → (u ≡ t → phaseOf (entered p t (s .transactions)) u ≡ p → A) → A
+entered-at s u t p same here =
+    same-or u t
+    (λ e.
+    lt-or t (length (s .transactions))
+    (λ l. here e (ap (phaseOf (entered p t (s .transactions))) e ∙ entered-same (s .transactions) t p l))
+    (λ l. same (out l e)))
+    (λ e. same (entered-other (s .transactions) t u p e))
+  where
+    out : length (s .transactions) ≤ t → u ≡ t → phaseOf (entered p t (s .transactions)) u ≡ phaseOf (s .transactions) u
+    out l e = ap (phaseOf (entered p t (s .transactions))) e ∙ past-idle (entered p t (s .transactions)) t (omega (arith, length-entered (s .transactions) t p)) ∙ sym (past-idle (s .transactions) t l) ∙ ap (phaseOf (s .transactions)) (sym e)
+
+pub phased : (tables : Tables) (s : State) (c : Change) → Step tables s c → (u : ℕ) → Phased tables s c u
+unfolding stateAfter
+phased tables s c (enters t f) u = entered-at s u t Active as-was (λ e. entered-now (subst (Entering tables s) (sym e) f))
+phased tables s c (ends t p fate f) u =
+    entered-at s u t p as-was (λ e. ended-now p (ap (λ (x : ℕ). code (phaseOf (s .transactions) x)) e ∙ f .active) (f .ended))
+phased tables s c (ends-one t q fate f) u = as-was refl
+phased tables s c (makes t o m f) u = as-was refl
+phased tables s c (gives t r q f) u = as-was refl
+
+-- an operation that was accepted before
+module _ (tables : Tables) (s : State) (h : Lasting s) (p : ℕ) (low : p < s .ops .count) where
+  -- whoever is responsible for it is not the one that enters a phase
+  other : (t : ℕ) (phase : Phase) → isActiveOp (opAt (s .ops) p .fate) ≡ true → opAt (s .ops) p .responsible ≢ t
+      → code (phaseOf (entered phase t (s .transactions)) (opAt (s .ops) p .responsible)) ≡ 1
+  other t phase a e = ap code (entered-other (s .transactions) t (opAt (s .ops) p .responsible) phase e) ∙ h .active p a
+
+  here : (which : ℕ → Operation → Bool) (how : Operation → Operation) → ((k : ℕ) → which k blank ≡ false) → {b : Bool} → which p (opAt (s .ops) p) ≡ b
+      → opAt (rewritten which how (s .ops)) p ≡ cond b (how (opAt (s .ops) p)) (opAt (s .ops) p)
+  here which how quiet e = rewritten-at which how quiet (s .ops) p ∙ rw (lt-ltb p (size (s .ops)) (omega (arith, size-count s h)), e)
+
+  touched-begin : (t : ℕ) → Entering tables s t → Touched tables s (Enters t Active) p
+  unfolding stateAfter
+  touched-begin t f =
+      kept (record {
+        low = low;
+        still = λ a. other t Active a (λ e. omega (arith, f .idle, h .active p a, ap (λ (x : ℕ). code (phaseOf (s .transactions) x)) e));
+        now = refl;
+      })
+
+  -- an operation that t holds ends with it
+  touched-end : (t : ℕ) (phase : Phase) (fate : Fate) → Ending tables s t phase fate → Touched tables s (Ends t phase fate) p
+  unfolding stateAfter
+  touched-end t phase fate f =
+      bool-cases (heldBy t (opAt (s .ops) p))
+      (λ b.
+      let both = on-and (isActiveOp (opAt (s .ops) p .fate)) (eqb (opAt (s .ops) p .responsible) t) b in
+      let mine : opAt (s .ops) p .responsible ≡ t = eqb-true (opAt (s .ops) p .responsible) t (both .1) in
+      ended fate
+      (record {
+        active = both .0;
+        gone = f .gone;
+        how = inl (omega (arith, f .ended, ap code (ap (phaseOf (entered phase t (s .transactions))) mine ∙ entered-same (s .transactions) t phase small)));
+        now = here (allHeldBy t) (endedAs fate (size (s .ops))) (λ k. refl) b;
+      }))
+      (λ b.
+      kept (record {
+        low = low;
+        still = λ a. other t phase a (λ e. clash (and-on (isActiveOp (opAt (s .ops) p .fate)) (eqb (opAt (s .ops) p .responsible) t) a (eq-eqb (opAt (s .ops) p .responsible) t e)) b);
+        now = here (allHeldBy t) (endedAs fate (size (s .ops))) (λ k. refl) b;
+      }))
+    where
+      small : t < length (s .transactions)
+      small = lt-or t (length (s .transactions)) (λ l. l) (λ l. absurd (omega (arith, f .active, ap code (past-idle (s .transactions) t l))))
+
+  touched-one : (t q : ℕ) (fate : Fate) → EndingOne tables s t q fate → Touched tables s (EndsOne q fate) p
+  unfolding stateAfter
+  touched-one t q fate f =
+      bool-cases (onlyActive q p (opAt (s .ops) p))
+      (λ b.
+      let both = on-and (isActiveOp (opAt (s .ops) p .fate)) (eqb p q) b in
+      ended fate
+      (record {
+        active = both .0;
+        gone = f .gone;
+        how = inr (eq-eqb q p (sym (eqb-true p q (both .1))));
+        now = here (onlyActive q) (endedAs fate (size (s .ops))) (λ k. refl) b;
+      }))
+      (λ b. kept (record { low = low; still = h .active p; now = here (onlyActive q) (endedAs fate (size (s .ops))) (λ k. refl) b }))
+
+  touched-given : (t r q : ℕ) → Giving tables s t r q → Touched tables s (Gives q r) p
+  unfolding stateAfter
+  touched-given t r q f =
+      bool-cases (onlyActive q p (opAt (s .ops) p))
+      (λ b.
+      let both = on-and (isActiveOp (opAt (s .ops) p .fate)) (eqb p q) b in
+      let from : opAt (s .ops) p .responsible ≡ t = ap (λ (x : ℕ). opAt (s .ops) x .responsible) (eqb-true p q (both .1)) ∙ f .from in
+      passed r
+      (record {
+        active = both .0;
+        gives = ap (λ (x : ℕ). noParty (sortOf tables x)) from ∙ f .gives;
+        receives = f .receives;
+        runs = f .receiver;
+        now = here (onlyActive q) (passedTo r) (λ k. refl) b;
+      }))
+      (λ b. kept (record { low = low; still = h .active p; now = here (onlyActive q) (passedTo r) (λ k. refl) b }))
+
+  touched-made : (t o : ℕ) (m : Mark) → Making tables s t o m → Touched tables s (Makes (newOp t o m)) p
+  unfolding stateAfter
+  touched-made t o m f =
+      kept (record { low = low; still = h .active p; now = made-at (newOp t o m) (s .ops) (h .room) (f .room) p ∙ rw (ne-eqb p (s .ops .count) (λ e. omega arith)) })
+
+  pub touched : (c : Change) → Step tables s c → Touched tables s c p
+  touched c (enters t f) = touched-begin t f
+  touched c (ends t phase fate f) = touched-end t phase fate f
+  touched c (ends-one t q fate f) = touched-one t q fate f
+  touched c (makes t o m f) = touched-made t o m f
+  touched c (gives t r q f) = touched-given t r q f
+
+-- ---- how many operations there are: as many as before, or one was made
+
+pub by-made : (tables : Tables) (s : State) (A : Change → Type 0) (c : Change) → Step tables s c
+    → ((c : Change) → stateAfter c s .ops .count ≡ s .ops .count → A c)
+    → ((t o : ℕ) (m : Mark) → Making tables s t o m → stateAfter (Makes (newOp t o m)) s .ops .count ≡ s .ops .count + 1 → A (Makes (newOp t o m))) → A c
+unfolding stateAfter rewritten
+by-made tables s A c (enters t f) same more = same c refl
+by-made tables s A c (ends t p fate f) same more = same c refl
+by-made tables s A c (ends-one t q fate f) same more = same c refl
+by-made tables s A c (makes t o m f) same more = more t o m f (ap (λ (x : Ops). x .count) (made-room (newOp t o m) (s .ops) (f .room)))
+by-made tables s A c (gives t r q f) same more = same c refl
+
+-- no accepted event lowers the count
+pub count-up : (tables : Tables) (s : State) (c : Change) → Step tables s c → s .ops .count ≤ stateAfter c s .ops .count
+count-up tables s c w =
+    by-made tables s (λ (x : Change). s .ops .count ≤ stateAfter x s .ops .count) c w (λ x e. omega (arith, e)) (λ t o m f e. omega (arith, e))
+
+-- an operation that was not there before it
+pub record New (tables : Tables) (s : State) (c : Change) (p : ℕ) : Type 0 where
+  pub t : ℕ
+  pub o : ℕ
+  pub m : Mark
+  pub making : Making tables s t o m
+  pub last : p ≡ s .ops .count
+  pub runs : code (phaseOf (stateAfter c s .transactions) t) ≡ 1
+  pub now : opAt (stateAfter c s .ops) p ≡ newOp t o m
+  pub others : (q : ℕ) → q < s .ops .count → opAt (stateAfter c s .ops) q ≡ opAt (s .ops) q
+
+pub new : (tables : Tables) (s : State) (c : Change) → Step tables s c → Lasting s → (p : ℕ) → s .ops .count ≤ p → p < stateAfter c s .ops .count → New tables s c p
+unfolding stateAfter
+new tables s c w h p l =
+    by-made tables s (λ (x : Change). p < stateAfter x s .ops .count → New tables s x p) c w
+    (λ x e u. absurd (omega (arith, e)))
+    (λ t o m f e u.
+    let last : p ≡ s .ops .count = omega (arith, e) in
+    record {
+      t = t;
+      o = o;
+      m = m;
+      making = f;
+      last = last;
+      runs = f .active;
+      now = made-at (newOp t o m) (s .ops) (h .room) (f .room) p ∙ rw (eq-eqb p (s .ops .count) last);
+      others = λ q g. made-at (newOp t o m) (s .ops) (h .room) (f .room) q ∙ rw (ne-eqb q (s .ops .count) (λ i. omega arith));
+    })
+
+past-rewritten : (s : State) → Lasting s → (which : ℕ → Operation → Bool) (how : Operation → Operation) → ((k : ℕ) → which k blank ≡ false)
+    → (p : ℕ) → rewritten which how (s .ops) .count ≤ p → opAt (rewritten which how (s .ops)) p ≡ opAt (s .ops) p
+past-rewritten s h which how quiet p l =
+    rewritten-at which how quiet (s .ops) p ∙ rw (le-ltb p (size (s .ops)) (omega (arith, size-count s h, count-rewritten which how quiet (s .ops))))
+
+-- past the operations that there are nothing changes
+pub rest : (tables : Tables) (s : State) (c : Change) → Step tables s c → Lasting s → (p : ℕ) → stateAfter c s .ops .count ≤ p
+    → opAt (stateAfter c s .ops) p ≡ opAt (s .ops) p
+unfolding stateAfter
+rest tables s c (enters t f) h p l = refl
+rest tables s c (ends t phase fate f) h p l = past-rewritten s h (allHeldBy t) (endedAs fate (size (s .ops))) (λ k. refl) p l
+rest tables s c (ends-one t q fate f) h p l = past-rewritten s h (onlyActive q) (endedAs fate (size (s .ops))) (λ k. refl) p l
+rest tables s c (makes t o m f) h p l =
+    made-at (newOp t o m) (s .ops) (h .room) (f .room) p
+    ∙ rw (ne-eqb p (s .ops .count) (λ e. omega (arith, ap (λ (x : Ops). x .count) (made-room (newOp t o m) (s .ops) (f .room)))))
+rest tables s c (gives t r q f) h p l = past-rewritten s h (onlyActive q) (passedTo r) (λ k. refl) p l
+
+-- and nothing grows longer
+pub lengths : (tables : Tables) (s : State) (c : Change) → Step tables s c
+    → (length (stateAfter c s .transactions) ≡ length (s .transactions)) × (length (stateAfter c s .ops .all) ≡ length (s .ops .all))
+unfolding stateAfter
+lengths tables s c (enters t f) = (length-entered (s .transactions) t Active, refl)
+lengths tables s c (ends t p fate f) = (length-entered (s .transactions) t p, length-rewritten (allHeldBy t) (endedAs fate (size (s .ops))) (λ k. refl) (s .ops))
+lengths tables s c (ends-one t q fate f) = (refl, length-rewritten (onlyActive q) (endedAs fate (size (s .ops))) (λ k. refl) (s .ops))
+lengths tables s c (makes t o m f) = (refl, length-made (newOp t o m) (s .ops))
+lengths tables s c (gives t r q f) = (refl, length-rewritten (onlyActive q) (passedTo r) (λ k. refl) (s .ops))
+
+-- any operation after the event: kept, ended, given, new, or none
+module _ (tables : Tables) (s : State) (c : Change) (w : Step tables s c) (h : Lasting s) (G : Operation → Type 0) (p : ℕ)
+    (if-kept : KeptNow tables s c p → G (opAt (s .ops) p))
+    (if-ended : (fate : Fate) → EndedNow tables s c p fate → G (endedAs fate (size (s .ops)) (opAt (s .ops) p)))
+    (if-given : (r : ℕ) → PassedNow tables s c p r → G (passedTo r (opAt (s .ops) p))) where
+  each : Touched tables s c p → G (opAt (stateAfter c s .ops) p)
+  each (kept f) = subst G (sym (f .now)) (if-kept f)
+  each (ended fate f) = subst G (sym (f .now)) (if-ended fate f)
+  each (passed r f) = subst G (sym (f .now)) (if-given r f)
+
+  pub every : ((n : New tables s c p) → G (newOp (n .t) (n .o) (n .m))) → (stateAfter c s .ops .count ≤ p → G (opAt (s .ops) p))
+      → G (opAt (stateAfter c s .ops) p)
+  every if-new if-none =
+      lt-or p (s .ops .count)
+      (λ l. each (touched tables s h p l c w))
+      (λ l.
+      lt-or p (stateAfter c s .ops .count)
+      (λ u. let n = new tables s c w h p l u in subst G (sym (n .now)) (if-new n))
+      (λ u. subst G (sym (rest tables s c w h p u)) (if-none u)))
+
+-- what ends alone might end alone
+pub alone-may : (tables : Tables) (s : State) (c : Change) → Step tables s c → (q : ℕ) → endsAlone c q ≡ true → (t : ℕ) × MayEndOne tables s t q
+alone-may tables s c (enters t f) q x = clash x refl
+alone-may tables s c (ends t p fate f) q x = clash x refl
+alone-may tables s c (ends-one t p fate f) q x = (t, subst (λ (y : ℕ). MayEndOne tables s t y) (eqb-true p q x) (f .may))
+alone-may tables s c (makes t o m f) q x = clash x refl
+alone-may tables s c (gives t r p f) q x = clash x refl

@@ -1,0 +1,3 @@
+-- Runs of events, and what is promised of judging them.
+pub mod Histories
+pub mod Promises
