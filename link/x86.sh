@@ -1,3 +1,4 @@
+# shellcheck shell=bash
 # Programs for x86-64, which the proved library is code for: how they are compiled, linked and run on this machine. To be sourced.
 # On x86-64 the machine's own cc and rustc make them. On another processor the toolchain's compiler, linker, C library and emulator serve,
 # and Rust's library for x86-64 is that of the installed rustc, or else what link/fetch-x86 fetches.
@@ -35,19 +36,31 @@ started() {
   ${emulator:+"$emulator"} "$tools/lib/ld-linux-x86-64.so.2" --library-path "$tools/lib" "$@"
 }
 
-# ---- C: a program from a source and an archive
+# ---- C: a program from a source and an archive; an object from a source with more words for the compiler, which needs no archive
 
 c_program() {
-  c_by_$by "$@"
+  c_object "$1.o" "$2" && "c_linked_by_$by" "$1" "$1.o" "$3"
 }
 
-c_by_machine() {
-  cc -std=c11 -Wall -Wextra -O1 -Wl,-z,now -o "$1" "$2" "$3"
+c_object() {
+  "c_object_by_$by" "$@"
+}
+
+c_object_by_machine() {
+  local out=$1 source=$2
+  shift 2
+  cc -std=c11 -Wall -Wextra -O1 "$@" -c "$source" -o "$out"
+}
+
+c_linked_by_machine() {
+  cc -Wl,-z,now -o "$@"
 }
 
 # The toolchain's compiler comes without headers; these two say what it knows by itself.
-c_by_toolchain() {
-  local include=$1.include
+c_object_by_toolchain() {
+  local out=$1 source=$2
+  shift 2
+  local include=$out.include
   mkdir -p "$include"
   cat >"$include/stddef.h" <<'C'
 typedef __SIZE_TYPE__ size_t;
@@ -58,13 +71,17 @@ typedef __UINT16_TYPE__ uint16_t;
 typedef __UINT64_TYPE__ uint64_t;
 #define UINT64_MAX __UINT64_MAX__
 C
-  "$tools/bin/clang" --target=$target -std=c11 -Wall -Wextra -O1 -fPIE -ffreestanding -nostdinc -isystem "$include" -c "$2" -o "$1.o" &&
-    "$tools/bin/ld.lld" -pie -z now --dynamic-linker=/lib64/ld-linux-x86-64.so.2 -o "$1" \
-      "$tools/lib/Scrt1.o" "$tools/lib/crti.o" "$tools/lib/crtbeginS.o" "$1.o" "$3" \
-      "$tools/lib/libc.so.6" "$tools/lib/libc_nonshared.a" "$tools/lib/libgcc.a" "$tools/lib/crtendS.o" "$tools/lib/crtn.o"
+  "$tools/bin/clang" --target=$target -std=c11 -Wall -Wextra -O1 -fPIE -ffreestanding -nostdinc -isystem "$include" "$@" \
+    -c "$source" -o "$out"
 }
 
-# ---- Rust: which compiler, and a program from a source with more words for the compiler
+c_linked_by_toolchain() {
+  "$tools/bin/ld.lld" -pie -z now --dynamic-linker=/lib64/ld-linux-x86-64.so.2 -o "$1" \
+    "$tools/lib/Scrt1.o" "$tools/lib/crti.o" "$tools/lib/crtbeginS.o" "$2" "$3" \
+    "$tools/lib/libc.so.6" "$tools/lib/libc_nonshared.a" "$tools/lib/libgcc.a" "$tools/lib/crtendS.o" "$tools/lib/crtn.o"
+}
+
+# ---- Rust: which compiler, and a library or a program from a source with more words for the compiler
 
 fetched=$root/target/x86
 rustc_fetched() {
@@ -89,14 +106,26 @@ find_rust() {
   fi
 }
 
-rust_program() {
-  rust_by_$by "$@"
-}
-
-rust_by_machine() {
+rust_compiled() {
   local out=$1 source=$2
   shift 2
   $compiler --edition 2021 --target $target "$@" -o "$out" "$source"
+}
+
+# The second program's library, for programs that name it with --extern.
+second_library() {
+  local out=$1
+  shift
+  rust_compiled "$out" "$root/second/src/lib.rs" --crate-type rlib --crate-name second "$@"
+}
+
+rust_program() {
+  "rust_by_$by" "$@"
+}
+
+# The machine's own linker and C library need no words.
+rust_by_machine() {
+  rust_compiled "$@"
 }
 
 # Rust asks for the parts of the C library by the names that an installed compiler has for them.
@@ -115,6 +144,6 @@ rust_by_toolchain() {
   for part in Scrt1.o crti.o crtbeginS.o crtendS.o crtn.o libc_nonshared.a; do
     words+=(-C "link-arg=$tools/lib/$part")
   done
-  $compiler --edition 2021 --target $target -L "native=$lib" -C linker-flavor=ld.lld -C "linker=$tools/bin/ld.lld" \
-    -C link-arg=--dynamic-linker=/lib64/ld-linux-x86-64.so.2 "${words[@]}" "$@" -o "$out" "$source"
+  rust_compiled "$out" "$source" -L "native=$lib" -C linker-flavor=ld.lld -C "linker=$tools/bin/ld.lld" \
+    -C link-arg=--dynamic-linker=/lib64/ld-linux-x86-64.so.2 "${words[@]}" "$@"
 }

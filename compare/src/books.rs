@@ -321,19 +321,22 @@ mod tests {
     }
 
     #[test]
-    fn the_old_way_answers_otherwise_only_where_21_is_given() {
+    fn circles_permitted_answer_otherwise_only_where_21_is_given() {
         let mut never_moving = 0;
         for index in 0..BOOKS {
             let bytes = book(9, index).bytes;
-            let old_opening = second::opening_old(&bytes);
-            let tables = Draft::of_book(old_opening).map(|draft| draft.tables);
+            let circles_opening = second::opening_circles_permitted(&bytes);
+            let tables = Draft::of_book(circles_opening).map(|draft| draft.tables);
             if tables.is_some_and(|tables| can_never_move(&tables)) {
                 assert_eq!(second::read(&bytes).number, 21);
-                assert!(second::read_old(&bytes).number != 21);
+                assert!(second::read_circles_permitted(&bytes).number != 21);
                 never_moving += 1;
             } else {
-                assert_eq!(second::listing(&bytes), second::listing_old(&bytes));
-                assert_eq!(second::opening(&bytes), old_opening);
+                assert_eq!(
+                    second::listing(&bytes),
+                    second::listing_circles_permitted(&bytes)
+                );
+                assert_eq!(second::opening(&bytes), circles_opening);
             }
         }
         assert!(never_moving > 50);

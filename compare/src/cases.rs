@@ -7,12 +7,13 @@ use std::fmt::Write;
 const MOST_ROOM: usize = 65_536;
 
 /// What is asked: a book to be read, or fields to be written, and the size of
-/// the lent room; or a book to be read in the old way, which takes no room.
+/// the lent room; or a book to be read with circles permitted in its tables,
+/// which takes no room.
 #[derive(Clone, Debug, PartialEq, Eq)]
 pub enum Case {
     Book(Vec<u8>, usize),
     Fields(Vec<u16>, usize),
-    OldBook(Vec<u8>),
+    CirclesBook(Vec<u8>),
 }
 
 impl Case {
@@ -20,20 +21,20 @@ impl Case {
         match self {
             Case::Book(..) => b'b',
             Case::Fields(..) => b'w',
-            Case::OldBook(..) => b'o',
+            Case::CirclesBook(..) => b'c',
         }
     }
 
     fn room(&self) -> usize {
         match self {
             Case::Book(_, room) | Case::Fields(_, room) => *room,
-            Case::OldBook(_) => 0,
+            Case::CirclesBook(_) => 0,
         }
     }
 
     fn bytes(&self) -> Vec<u8> {
         match self {
-            Case::Book(book, _) | Case::OldBook(book) => book.clone(),
+            Case::Book(book, _) | Case::CirclesBook(book) => book.clone(),
             Case::Fields(fields, _) => fields.iter().flat_map(|f| f.to_le_bytes()).collect(),
         }
     }
@@ -43,7 +44,7 @@ impl Case {
         match self {
             Case::Book(book, room) => book_answer(book, *room),
             Case::Fields(fields, room) => write_answer(fields, *room),
-            Case::OldBook(book) => old_book_answer(book),
+            Case::CirclesBook(book) => circles_book_answer(book),
         }
     }
 }
@@ -98,10 +99,13 @@ fn book_answer(book: &[u8], room: usize) -> Vec<u8> {
     text.into_bytes()
 }
 
-fn old_book_answer(book: &[u8]) -> Vec<u8> {
-    let mut text = second::listing_old(book);
-    put_opening(&mut text, second::opening_old(book));
-    put_report(&mut text, &second::report(&second::read_old(book)));
+fn circles_book_answer(book: &[u8]) -> Vec<u8> {
+    let mut text = second::listing_circles_permitted(book);
+    put_opening(&mut text, second::opening_circles_permitted(book));
+    put_report(
+        &mut text,
+        &second::report(&second::read_circles_permitted(book)),
+    );
     text.into_bytes()
 }
 
@@ -133,7 +137,7 @@ fn write_answer(fields: &[u16], room: usize) -> Vec<u8> {
 
 /// The cases of a seed: books, and a list of fields after every fourth. Every
 /// third has a room that is about as large as needed. Books whose tables can
-/// never move, and every eighth, are asked in the old way too.
+/// never move, and every eighth, are asked with circles permitted too.
 pub fn made(seed: u64, count: u64) -> Vec<Case> {
     let mut cases = Vec::new();
     for index in 0..count {
@@ -142,7 +146,7 @@ pub fn made(seed: u64, count: u64) -> Vec<Case> {
         let never_moves = second::read(&bytes).number == second::refusal::NEVER_MOVES;
         cases.push(Case::Book(bytes.clone(), room));
         if never_moves || index.is_multiple_of(8) {
-            cases.push(Case::OldBook(bytes));
+            cases.push(Case::CirclesBook(bytes));
         }
         if index.is_multiple_of(4) {
             let fields = field_list(seed, index);
@@ -187,7 +191,7 @@ fn fixed_case(line: &str) -> Option<Case> {
             numbers(words, |word| word.parse().ok())?,
             lent,
         )),
-        ("o", None) => Some(Case::OldBook(numbers(words, byte)?)),
+        ("c", None) => Some(Case::CirclesBook(numbers(words, byte)?)),
         _ => None,
     }
 }
@@ -218,13 +222,13 @@ mod tests {
 
     #[test]
     fn a_line_of_the_fixed_cases() {
-        let cases = fixed("# not this\n\nb 01 x2 0A /3\nw 7 300\no 01 x2 FF\n").unwrap();
+        let cases = fixed("# not this\n\nb 01 x2 0A /3\nw 7 300\nc 01 x2 FF\n").unwrap();
         assert_eq!(
             cases,
             [
                 Case::Book(vec![1, 10, 10], 3),
                 Case::Fields(vec![7, 300], MOST_ROOM),
-                Case::OldBook(vec![1, 255, 255])
+                Case::CirclesBook(vec![1, 255, 255])
             ]
         );
     }
@@ -234,14 +238,14 @@ mod tests {
         let text = include_str!("../fixed.txt");
         let lines = text
             .lines()
-            .filter(|line| line.starts_with(['b', 'w', 'o']));
+            .filter(|line| line.starts_with(['b', 'w', 'c']));
         assert_eq!(fixed(text).map(|cases| cases.len()), Ok(lines.count()));
     }
 
     #[test]
     fn a_bad_line_is_named() {
         for line in [
-            "c 01", "b 1G", "w 65536", "b 01 /x", "b xx 01", "o 1G", "o 01 /3",
+            "o 01", "b 1G", "w 65536", "b 01 /x", "b xx 01", "c 1G", "c 01 /3",
         ] {
             let text = format!("b 01\n{line}\n");
             assert_eq!(fixed(&text), Err(format!("line 2: {line}")));
@@ -253,13 +257,13 @@ mod tests {
         let cases = [
             Case::Book(vec![9], 2),
             Case::Fields(vec![258], 65_536),
-            Case::OldBook(vec![7, 8]),
+            Case::CirclesBook(vec![7, 8]),
         ];
         let asked = [
             &[3, 0, 0][..],
             &[b'b', 2, 0, 0, 1, 0, 0, 9],
             &[b'w', 0, 0, 1, 2, 0, 0, 2, 1],
-            &[b'o', 0, 0, 0, 2, 0, 0, 7, 8],
+            &[b'c', 0, 0, 0, 2, 0, 0, 7, 8],
         ];
         assert_eq!(question(&cases), asked.concat());
     }
@@ -280,26 +284,28 @@ mod tests {
         let book = Case::Book(bytes.clone(), 20);
         let answer = "book refused 21 0 4\nopening 0\nactive 0 lowest 64\nrefused 21 0 4\n";
         assert_eq!(book.answer(), answer.as_bytes());
-        let old = Case::OldBook(bytes);
+        let permitted = Case::CirclesBook(bytes);
         let answer = "book accepted 1\nt 0 idle\nt 1 idle\nt 2 active\n\
                       opening 13\nactive 1 lowest 2\n";
-        assert_eq!(old.answer(), answer.as_bytes());
+        assert_eq!(permitted.answer(), answer.as_bytes());
     }
 
     #[test]
-    fn books_that_never_move_are_asked_in_the_old_way_too() {
+    fn books_that_never_move_are_asked_with_circles_permitted_too() {
         let cases = made(1, 400);
-        let mut old = cases.iter().filter(|case| matches!(case, Case::OldBook(_)));
+        let mut permitted = cases
+            .iter()
+            .filter(|case| matches!(case, Case::CirclesBook(_)));
         let mut never_moving = 0;
         for (index, case) in cases.iter().enumerate() {
             let Case::Book(bytes, _) = case else { continue };
             if second::read(bytes).number == 21 {
-                assert_eq!(cases[index + 1], Case::OldBook(bytes.clone()));
+                assert_eq!(cases[index + 1], Case::CirclesBook(bytes.clone()));
                 never_moving += 1;
             }
         }
-        assert!(never_moving > 5 && old.clone().count() >= 50);
+        assert!(never_moving > 5 && permitted.clone().count() >= 50);
         let first = book(1, 0).bytes;
-        assert_eq!(old.next(), Some(&Case::OldBook(first)));
+        assert_eq!(permitted.next(), Some(&Case::CirclesBook(first)));
     }
 }

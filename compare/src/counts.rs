@@ -18,8 +18,8 @@ pub struct Counts {
     events: u64,
     kinds: BTreeMap<&'static str, u64>,
     numbers: [u64; HIGHEST_OF_READING + 1],
-    /// What reading in the old way comes to, for books refused by 21.
-    old_numbers: BTreeMap<u8, u64>,
+    /// What reading with circles permitted comes to, for books refused by 21.
+    circles_numbers: BTreeMap<u8, u64>,
     singles: Singles,
 }
 
@@ -38,8 +38,8 @@ impl Counts {
         self.numbers[usize::from(reading.number)] += 1;
         self.singles.count(&made.bytes, &reading);
         if reading.number == second::refusal::NEVER_MOVES {
-            let old_number = second::read_old(&made.bytes).number;
-            *self.old_numbers.entry(old_number).or_default() += 1;
+            let circles_number = second::read_circles_permitted(&made.bytes).number;
+            *self.circles_numbers.entry(circles_number).or_default() += 1;
         }
     }
 
@@ -65,10 +65,10 @@ impl fmt::Display for Counts {
         for number in of_reading() {
             writeln!(output, "read {:6} refused {number}", self.numbers[number])?;
         }
-        for (number, count) in &self.old_numbers {
+        for (number, count) in &self.circles_numbers {
             match number {
-                0 => writeln!(output, "old  {count:6} accepted")?,
-                _ => writeln!(output, "old  {count:6} refused {number}")?,
+                0 => writeln!(output, "circles {count:6} accepted")?,
+                _ => writeln!(output, "circles {count:6} refused {number}")?,
             }
         }
         write!(output, "{}", self.singles)
@@ -89,7 +89,7 @@ mod tests {
             }
             assert_eq!(counts.missing(), [0; 0]);
             for number in [0, 14] {
-                assert!(counts.old_numbers.get(&number) > Some(&10), "{number}");
+                assert!(counts.circles_numbers.get(&number) > Some(&10), "{number}");
             }
         }
     }

@@ -406,7 +406,7 @@ mod tests {
     /// program others on the way, and compares what they say.
     fn walk(random: &mut Random, story: &Story) {
         let mut model = Model::new(&story.draft.tables);
-        let mut reading = second::read_old(&encode(&story.draft.tables.fields()));
+        let mut reading = second::read_circles_permitted(&encode(&story.draft.tables.fields()));
         for event in &story.draft.events {
             for code in [1, 2, 2, 3, 4, 5, 6, 6, 7] {
                 let other = wild_event(random, &model, code);

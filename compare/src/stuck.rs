@@ -118,8 +118,8 @@ fn hardly_moving_tables(random: &mut Random) -> Tables {
     }
 }
 
-/// A story that only the old way tells, acceptable but for its tables, and the
-/// transactions that can never begin in it.
+/// A story that is told only with circles permitted, acceptable but for its
+/// tables, and the transactions that can never begin in it.
 pub fn never_moving_story(random: &mut Random) -> (Story, Vec<u16>) {
     let (tables, ring) = never_moving_tables(random);
     let mut story = Story::new(tables);
@@ -140,8 +140,8 @@ fn made(bytes: Vec<u8>, kind: &'static str) -> Made {
     Made { bytes, kind }
 }
 
-/// A book that is refused by 21. In the old way it is read to its end, or up
-/// to a transaction that waits for itself, or up to something else.
+/// A book that is refused by 21. With circles permitted it is read to its end,
+/// or up to a transaction that waits for itself, or up to something else.
 pub fn never_moving(random: &mut Random) -> Made {
     let (mut story, never_begun) = never_moving_story(random);
     let tables = encode(&story.draft.tables.fields());
@@ -246,20 +246,20 @@ mod tests {
     }
 
     #[test]
-    fn in_the_old_way_nobody_on_a_ring_begins() {
+    fn with_circles_permitted_nobody_on_a_ring_begins() {
         let (mut others_begun, mut waiting) = (0, 0);
         for index in 0..300 {
             let random = &mut Random::new(23, index);
             let (story, never_begun) = never_moving_story(random);
             let book = story.draft.bytes();
             assert_eq!(second::read(&book).number, 21);
-            let reading = second::read_old(&book);
+            let reading = second::read_circles_permitted(&book);
             assert_eq!(reading.number, 0);
             others_begun += usize::from(reading.events > 0);
             for t in never_begun {
                 let mut draft = story.draft.clone();
                 draft.events.push(Event::Begin(t));
-                let refused = second::read_old(&draft.bytes());
+                let refused = second::read_circles_permitted(&draft.bytes());
                 assert_eq!((refused.number, refused.events), (14, reading.events));
                 waiting += 1;
             }
@@ -275,7 +275,7 @@ mod tests {
             assert!([2, 3, 6].contains(&second::read(&made.bytes).number));
             assert_eq!(
                 second::listing(&made.bytes),
-                second::listing_old(&made.bytes)
+                second::listing_circles_permitted(&made.bytes)
             );
             let whole = Draft::of_book(&made.bytes);
             behind += usize::from(whole.is_some_and(|draft| can_never_move(&draft.tables)));

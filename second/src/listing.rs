@@ -4,7 +4,7 @@ use crate::closing::{closing, outstanding};
 use crate::event::{ABORT, BEGIN};
 use crate::refusal;
 use crate::state::{Mark, Phase};
-use crate::{read, read_old, Reading};
+use crate::{read, read_circles_permitted, Reading};
 
 /// The listing: whether the book is accepted, then the transactions, the
 /// operations and the sagas. After refused tables only the first line.
@@ -12,9 +12,9 @@ pub fn listing(book: &[u8]) -> String {
     lines(&read(book))
 }
 
-/// The listing of a book that is read in the old way.
-pub fn listing_old(book: &[u8]) -> String {
-    lines(&read_old(book))
+/// The listing of a book that is read with circles permitted.
+pub fn listing_circles_permitted(book: &[u8]) -> String {
+    lines(&read_circles_permitted(book))
 }
 
 fn lines(reading: &Reading) -> String {

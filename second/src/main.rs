@@ -12,7 +12,7 @@ use std::process::ExitCode;
 use std::time::{Duration, Instant};
 
 const USAGE: &str = "usage: second listing | opening | unpack [ROOM] | write [ROOM] | pairs
-       second old-listing | old-opening
+       second circles-listing | circles-opening
        second listings FOLDER
        second measure FILE TIMES
 All but the last two read standard input.";
@@ -45,8 +45,12 @@ fn answer(arguments: &[OsString]) -> Result<Vec<u8>, String> {
     match (command, words.get(1..).unwrap_or_default()) {
         (Some("listing"), []) => Ok(second::listing(&book_from_input()?).into_bytes()),
         (Some("opening"), []) => Ok(second::opening(&book_from_input()?).to_vec()),
-        (Some("old-listing"), []) => Ok(second::listing_old(&book_from_input()?).into_bytes()),
-        (Some("old-opening"), []) => Ok(second::opening_old(&book_from_input()?).to_vec()),
+        (Some("circles-listing"), []) => {
+            Ok(second::listing_circles_permitted(&book_from_input()?).into_bytes())
+        }
+        (Some("circles-opening"), []) => {
+            Ok(second::opening_circles_permitted(&book_from_input()?).to_vec())
+        }
         (Some("unpack"), room @ ([] | [_])) => unpack(room_size(room)?),
         (Some("write"), room @ ([] | [_])) => write(room_size(room)?),
         (Some("pairs"), []) => Ok(pairs(&second::read(&book_from_input()?))),

@@ -109,7 +109,7 @@ impl Kind {
 pub enum NeverMoving {
     /// They are refused.
     Refused,
-    /// They are taken, as in the old way.
+    /// They are taken: circles are permitted.
     Taken,
 }
 

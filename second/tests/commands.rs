@@ -105,7 +105,7 @@ fn opening() {
 }
 
 #[test]
-fn the_old_way() {
+fn circles_permitted() {
     // Plain 0 and 1 wait for each other, 2 for nobody; 2 begins.
     let book = [1, 0, 3, 0, 2, 0, 1, 4, 1, 0, 4, 1, 2];
     answers(&["listing"], &book, "book refused 21 0 4\n");
@@ -113,25 +113,25 @@ fn the_old_way() {
     answers(&["pairs"], &book, "active 0 lowest 64\n");
     answers(&["unpack", "0"], &book, "refused 21 0 4\n");
     answers(
-        &["old-listing"],
+        &["circles-listing"],
         &book,
         "book accepted 1\nt 0 idle\nt 1 idle\nt 2 active\n",
     );
     let stuck = [&book[..], &[1, 0]].concat();
     answers(
-        &["old-listing"],
+        &["circles-listing"],
         &stuck,
         "book refused 14 1 13\nt 0 idle\nt 1 idle\nt 2 active\n",
     );
-    let output = run(&["old-opening"], &stuck);
+    let output = run(&["circles-opening"], &stuck);
     assert!(output.status.success());
     assert_eq!(output.stdout, book);
-    answers(&["old-listing"], &[], "book refused 2 0 0\n");
-    answers(&["old-opening"], &[9], "");
-    answers(&["old-listing"], &[1; 70_000], "book refused 1 0 0\n");
-    complains(&["old-unpack"], &book);
-    complains(&["old-write"], b"1 0 0 0 0");
-    complains(&["old-listing", "more"], &book);
+    answers(&["circles-listing"], &[], "book refused 2 0 0\n");
+    answers(&["circles-opening"], &[9], "");
+    answers(&["circles-listing"], &[1; 70_000], "book refused 1 0 0\n");
+    complains(&["circles-unpack"], &book);
+    complains(&["circles-write"], b"1 0 0 0 0");
+    complains(&["circles-listing", "more"], &book);
 }
 
 #[test]

@@ -8,4 +8,3 @@ pub mod WholeLaws
 pub mod PackingLaws
 pub mod PlaceLaws
 pub mod DemandsHold
-pub mod CasesHold

@@ -2,4 +2,3 @@
 pub mod Reading
 pub mod Packing
 pub mod Demands
-pub mod Cases

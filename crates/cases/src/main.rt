@@ -1,11 +1,14 @@
 // Answers the cases on its standard input one after another, so that two programs can be held against each other.
 //
 // A case is a letter, the size of the lent room, a length, and that many bytes; sizes and lengths have three bytes, low byte first. 'b' is a
-// book: its listing, the length of its accepted opening, the report on its state, and its fields unpacked into the room. 'o' is an old book,
-// whose tables may be such as can never move: the same without its fields. 'w' is a list of fields, two bytes each, low byte first: what
-// writing them into the room answers. It stops at the end of the input or where that is torn.
+// book: its listing, the length of its accepted opening, the report on its state, and its fields unpacked into the room. 'c' is a book
+// whose begin dependencies may go round in a circle: the same without its fields. 'w' is a list of fields, two bytes each, low byte first: what
+// writing them into the room answers. It stops at the end of the input or where that is torn. A case that was not read gets no answer, and what
+// was not read, written or understood is said on standard error.
 use book::Outcome;
 use book::Reading;
+use input::Filled;
+use libc::STDERR_FILENO;
 use libc::STDIN_FILENO;
 use libc::STDOUT_FILENO;
 use listing::Placed;
@@ -122,10 +125,10 @@ fn answer_book(bytes: &[u8], room: &mut [u16]) {
     unpack(bytes, room);
 }
 
-fn old_case(bytes: &[u8]) {
-    let reading = book::read_old(bytes);
+fn circles_case(bytes: &[u8]) {
+    let reading = book::read_permitting_circles(bytes);
     say_listing(reading);
-    let opening = book::opening_old(bytes);
+    let opening = book::opening_permitting_circles(bytes);
     say_count(b"opening", opening.len());
     say_report(reading);
 }
@@ -193,51 +196,114 @@ fn write_case(bytes: &[u8], size: usize) {
 fn answer(letter: u8, bytes: &[u8], size: usize) {
     if letter == b'w' {
         write_case(bytes, size);
-    } else if letter == b'o' {
-        old_case(bytes);
+    } else if letter == b'c' {
+        circles_case(bytes);
     } else {
         book_case(bytes, size);
     }
 }
 
-// Fills a part with the bytes of a case and answers it; whether they were all there.
-fn read_and_answer(letter: u8, part: &mut [u8], size: usize) -> bool {
-    let n = io::read_full(STDIN_FILENO, part);
-    if n < part.len() {
-        return false;
-    }
-    answer(letter, &part[..n], size);
-    true
+// What became of a part of the input, or of a case.
+enum Came {
+    Whole,
+    Torn,
+    NotRead,
+    NotWritten,
 }
 
-// One case; whether it was there whole.
-fn one_case() -> bool {
-    let mut head = [0u8; 7];
-    let got = io::read_full(STDIN_FILENO, &mut head);
-    if got < 7 {
-        return false;
+// Fills a part of the input; it is torn if the input ends before.
+fn read_part(part: &mut [u8]) -> Came {
+    match input::fill(STDIN_FILENO, part) {
+        Filled::Whole(n) => {
+            if n < part.len() {
+                return Came::Torn;
+            }
+            Came::Whole
+        }
+        Filled::Failed => Came::NotRead,
     }
+}
+
+// Sets errno to 0, as asking for a word that is there does.
+fn clear_errno() {
+    let mut name = io::buffer();
+    os::arg(0, &mut name);
+}
+
+// Answers case k. A write that fails sets errno, and one that does not leaves it; so one look at the end is enough.
+fn answer_whole(k: usize, letter: u8, bytes: &[u8], size: usize) -> Came {
+    clear_errno();
+    say_count(b"== case", k);
+    answer(letter, bytes, size);
+    if os::errno() != 0 {
+        return Came::NotWritten;
+    }
+    Came::Whole
+}
+
+// Fills a part with the bytes of case k and answers it.
+fn read_and_answer(k: usize, letter: u8, part: &mut [u8], size: usize) -> Came {
+    let came = read_part(part);
+    let Came::Whole = came else {
+        return came;
+    };
+    answer_whole(k, letter, part, size)
+}
+
+// Reads case k and answers it.
+fn one_case(k: usize) -> Came {
+    let mut head = [0u8; 7];
+    let came = read_part(&mut head);
+    let Came::Whole = came else {
+        return came;
+    };
     let size = three(head[1], head[2], head[3]);
     let length = three(head[4], head[5], head[6]);
     let mut bytes = [0u8; 131074];
     if 131074 < length {
-        return false;
+        return Came::Torn;
     }
-    read_and_answer(head[0], &mut bytes[..length], size)
+    read_and_answer(k, head[0], &mut bytes[..length], size)
+}
+
+// How the run ended, if it did not end well: what is torn is an answer, what failed is not.
+fn say_end(came: Came) {
+    match came {
+        Came::Whole => {}
+        Came::Torn => say(b"torn\n"),
+        Came::NotRead => os::fail(b"cases: the input was not read"),
+        Came::NotWritten => os::fail(b"cases: the answers were not written whole"),
+    }
+}
+
+// Answers so many cases one after another, up to one that is torn or fails.
+fn answer_all(cases: usize) -> Came {
+    let mut k: usize = 0;
+    while k < cases {
+        let came = one_case(k);
+        let Came::Whole = came else {
+            return came;
+        };
+        k += 1;
+    }
+    Came::Whole
 }
 
 // The input begins with the number of cases.
-fn main() {
+fn read_and_answer_all() -> Came {
     let mut head = [0u8; 3];
-    io::read_full(STDIN_FILENO, &mut head);
-    let cases = three(head[0], head[1], head[2]);
-    let mut k: usize = 0;
-    while k < cases {
-        say_count(b"== case", k);
-        if !one_case() {
-            say(b"torn\n");
-            return;
-        }
-        k += 1;
+    let came = read_part(&mut head);
+    let Came::Whole = came else {
+        return came;
+    };
+    answer_all(three(head[0], head[1], head[2]))
+}
+
+fn main() {
+    if 1 < os::arg_count() {
+        io::write_all(STDERR_FILENO, b"usage: cases < CASES\n");
+        return;
     }
+    let came = read_and_answer_all();
+    say_end(came);
 }

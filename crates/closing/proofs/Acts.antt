@@ -19,8 +19,8 @@ use Rattle.tables.specs.declared.Tables.{Tables}
 use Rattle.tables.proofs.SagaLaws.{owned-le, well-steps}
 use Rattle.judge.specs.Judge.{changeOf, judged, stateAfter}
 use Rattle.judge.specs.States.{entered, own, phaseOf}
-use Rattle.judge.specs.declared.Event.{Event}
-use Rattle.judge.specs.declared.Event.the-variants.{Abort, AbortOne, Begin, Commit, CommitOne, Delegate, Operation as Invoke}
+use Rattle.terms.specs.declared.Event.{Event}
+use Rattle.terms.specs.declared.Event.the-variants.{Abort, AbortOne, Begin, Commit, CommitOne, Delegate, Operation as Invoke}
 use Rattle.judge.specs.declared.Phase.{Phase}
 use Rattle.judge.specs.declared.Phase.the-variants.{Aborted, Active, Committed}
 use Rattle.judge.specs.declared.State.{State}

@@ -26,7 +26,7 @@ use Rattle.tables.proofs.SagaLaws.{owned-le, sort-step, sort-undo, well-steps}
 use Rattle.judge.specs.Judge.{changeOf, judged, stateAfter}
 use Rattle.judge.specs.Rules.{barredBy, commitBars, declaredBars, kindBars, undoBegins, undone}
 use Rattle.judge.specs.States.{entered, isAborted, isActive, isCommitted, own, phaseOf}
-use Rattle.judge.specs.declared.Event.the-variants.{Abort, Begin, Commit}
+use Rattle.terms.specs.declared.Event.the-variants.{Abort, Begin, Commit}
 use Rattle.judge.specs.declared.Phase.{Phase}
 use Rattle.judge.specs.declared.Phase.the-variants.{Aborted, Active, Committed}
 use Rattle.judge.specs.declared.State.{State}

@@ -8,5 +8,5 @@ pub mod Acts
 pub mod Order
 pub mod UndoTies
 pub mod ClosingAccepted
-pub mod DemandHolds
-pub mod SettlingHolds
+pub mod Demand3Holds
+pub mod ClosingSettlesHolds

@@ -10,7 +10,7 @@ use Rattle.tables.proofs.SagaLaws.{well-steps}
 use Rattle.histories.specs.Histories.{history, reached, run, taken}
 use Rattle.judge.specs.Judge.{changeOf, judged, stateAfter}
 use Rattle.judge.specs.States.{emptyState, own}
-use Rattle.judge.specs.declared.Event.{Event}
+use Rattle.terms.specs.declared.Event.{Event}
 use Rattle.judge.specs.declared.State.{State}
 use Rattle.histories.proofs.Invariants.{lasting-kept, lasting-start}
 use Rattle.histories.proofs.Lasts.{Lasting}

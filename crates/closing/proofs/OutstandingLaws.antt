@@ -14,8 +14,8 @@ use Rattle.laws.proofs.HighestLaws.{Highest, highest-none, highest-same, highes
 use Rattle.sets.specs.Reach.{at}
 use Rattle.judge.specs.Rules.{undone}
 use Rattle.judge.specs.States.{isActive, isCommitted}
-use Rattle.judge.specs.declared.Event.{Event}
-use Rattle.judge.specs.declared.Event.the-variants.{Abort, Begin, Commit}
+use Rattle.terms.specs.declared.Event.{Event}
+use Rattle.terms.specs.declared.Event.the-variants.{Abort, Begin, Commit}
 use Rattle.judge.specs.declared.Phase.{Phase}
 use Rattle.judge.specs.declared.Phase.the-variants.{Aborted, Active, Committed, Idle}
 use Rattle.judge.proofs.PhaseLaws.{active-is, active-not, code, code-inj, committed-is, committed-not, not-active, not-committed, of-aborted, of-active, of-committed}

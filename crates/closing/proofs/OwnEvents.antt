@@ -14,8 +14,8 @@ use Rattle.tables.specs.declared.Tables.{Tables}
 use Rattle.tables.proofs.SagaLaws.{sort-saga, sort-step, sort-undo}
 use Rattle.judge.specs.Rules.{stepBegins, undoBegins, undone}
 use Rattle.judge.specs.States.{isAborted, isActive, isCommitted, own}
-use Rattle.judge.specs.declared.Event.{Event}
-use Rattle.judge.specs.declared.Event.the-variants.{Abort, Begin, Commit}
+use Rattle.terms.specs.declared.Event.{Event}
+use Rattle.terms.specs.declared.Event.the-variants.{Abort, Begin, Commit}
 use Rattle.judge.specs.declared.Phase.{Phase}
 use Rattle.judge.specs.declared.Phase.the-variants.{Aborted, Committed}
 use Rattle.judge.specs.declared.State.{State}

@@ -11,9 +11,9 @@ use Rattle.laws.proofs.Bools.{and-off, and-on, and-rest, bool-cases, clash, is-
 use Rattle.laws.proofs.Decisions.{lt-or}
 use Rattle.laws.proofs.IndexLaws.{any-off, off-any}
 use Rattle.sets.specs.Reach.{at}
-use Rattle.ties.specs.Operations.{isAborted as isAbortedOp, isActive as isActiveOp, isCommitted as isCommittedOp, isWrite, newOp, opAt, size}
+use Rattle.ties.specs.Operations.{isAborted as isAbortedOp, isActive as isActiveOp, isCommitted as isCommittedOp, newOp, opAt, size}
 use Rattle.ties.specs.Ties.{apart, before, bothOwned, cleanFor, conflict, counts, dirties, dirty, dirtyAt, mustWait, neitherAborted, readBy, tied, tiedTo, waitsFor, wasActive}
-use Rattle.ties.specs.declared.Mark.{Mark}
+use Rattle.terms.specs.declared.Mark.{Mark}
 use Rattle.ties.specs.declared.Operation.{Operation}
 use Rattle.ties.specs.declared.Ops.{Ops}
 use Rattle.ties.proofs.TieLaws.{before-ties, tie-made, tie-parts}
@@ -28,6 +28,7 @@ use Rattle.histories.proofs.Lasts.{Lasting, size-count}
 use Rattle.judge.proofs.PhaseLaws.{code}
 use Rattle.histories.proofs.Steps.{Making, Step}
 use Rattle.histories.proofs.Touches.{New, Touched, by-whose, new, same-mark, same-object, same-was, touched}
+use Rattle.terms.specs.Events.{isWrite}
 use Rattle.closing.specs.Demand.{mine}
 
 -- ---- ties before and after an event

@@ -1,16 +1,16 @@
--- Section 'Closing' of document 01, over the phases P of a saga of n steps: P 0 is S, P i is T(i), P (n + i) is C(i).
-use Prim.Native.Nat.{ℕ, zero, suc, _+_, _-_, min}
-use mathlib.Core.Bool.{Bool, true, false, cond, not, _&&_, _||_}
+-- What a saga owes (docs/RULES.md, 6 Closing), over the phases P of a saga of n steps: P 0 is S, P i is T(i), P (n + i) is C(i).
+use Prim.Native.Nat.{ℕ, zero, suc, _+_, _-_}
+use mathlib.Core.Bool.{Bool, false, cond, not, _&&_, _||_}
 use mathlib.Core.Option.{Option, none, some}
 use lib.Dec.{ltb, eqb}
 use Rattle.laws.specs.Index.{one, highest, sumTo}
-use Rattle.terms.specs.Limits.{mostSagas}
+use Rattle.tables.specs.Counts.{sagaCount}
 use Rattle.tables.specs.Sorts.{firstOf, stepsOf}
 use Rattle.tables.specs.declared.Tables.{Tables}
 use Rattle.judge.specs.declared.Phase.{Phase}
 use Rattle.judge.specs.declared.Phase.the-variants.{Idle, Active, Committed, Aborted}
-use Rattle.judge.specs.declared.Event.{Event}
-use Rattle.judge.specs.declared.Event.the-variants.{Begin, Commit, Abort}
+use Rattle.terms.specs.declared.Event.{Event}
+use Rattle.terms.specs.declared.Event.the-variants.{Begin, Commit, Abort}
 use Rattle.judge.specs.declared.State.{State}
 use Rattle.judge.specs.States.{isActive, isCommitted, isAborted, own}
 use Rattle.judge.specs.Rules.{undone}
@@ -86,7 +86,7 @@ settledBy p n P =
 -- ---- for the saga of any index; an index that is no saga's owes nothing, has no closing step and is not settled
 
 abbrev pub isListed : Tables → ℕ → Bool
-isListed tables i = ltb i (min (tables .sagas) mostSagas)
+isListed tables i = ltb i (sagaCount tables)
 
 -- the phases of saga i's own transactions
 abbrev pub ownOf : Tables → State → ℕ → ℕ → Phase

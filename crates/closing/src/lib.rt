@@ -25,11 +25,7 @@ pub enum NextStep {
 fn is_listed(tables: Tables, saga: usize) -> bool
     ensures { λ r. ⌜ r ≡ isListed tables saga ⌝ }
 {
-    let sagas = tables.sagas;
-    if sagas < Book::SAGAS {
-        return saga < sagas;
-    }
-    saga < Book::SAGAS
+    saga < tables.saga_count()
 }
 
 // The active step, 0 if there is none.

@@ -21,7 +21,7 @@ use Rattle.histories.specs.Histories.{reached}
 use Rattle.judge.specs.Judge.{stateAfter}
 use Rattle.judge.specs.Rules.{barredBy, beginBars, declaredBars}
 use Rattle.judge.specs.States.{emptyState, phaseOf}
-use Rattle.judge.specs.declared.Event.{Event}
+use Rattle.terms.specs.declared.Event.{Event}
 use Rattle.judge.specs.declared.Change.{Change}
 use Rattle.judge.specs.declared.Phase.the-variants.{Idle}
 use Rattle.judge.specs.declared.State.{State}

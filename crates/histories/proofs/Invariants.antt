@@ -8,13 +8,13 @@ use mathlib.Core.List.{List}
 use Rattle.laws.proofs.Bools.{clash}
 use Rattle.laws.proofs.Decisions.{lt-or}
 use Rattle.terms.specs.Limits.{mostTransactions}
-use Rattle.ties.specs.Operations.{blank, isActive as isActiveOp, mostOperations, noOps, opAt}
+use Rattle.ties.specs.Operations.{noOperation, isActive as isActiveOp, mostOperations, noOps, opAt}
 use Rattle.ties.specs.declared.Operation.{Operation}
 use Rattle.tables.specs.declared.Tables.{Tables}
 use Rattle.judge.specs.Judge.{stateAfter}
 use Rattle.judge.specs.States.{emptyState, idle, phaseOf}
 use Rattle.judge.specs.declared.Change.{Change}
-use Rattle.judge.specs.declared.Event.{Event}
+use Rattle.terms.specs.declared.Event.{Event}
 use Rattle.judge.specs.declared.State.{State}
 use Rattle.judge.proofs.PhaseLaws.{code}
 use Rattle.histories.specs.Histories.{reached}
@@ -64,17 +64,17 @@ module _ (tables : Tables) (s : State) (c : Change) (h : Lasting s) (w : Step ta
 pub lasting-kept : (tables : Tables) (s : State) (c : Change) → Lasting s → Step tables s c → Lasting (stateAfter c s)
 lasting-kept tables s c h w = lasting-after tables s c h w
 
-all-blank : (q : ℕ) → opAt noOps q ≡ blank
+all-blank : (q : ℕ) → opAt noOps q ≡ noOperation
 all-blank q =
     lt-or q mostOperations
-    (λ h. getD-replicate mostOperations q blank blank h)
-    (λ h. List·getD-eq-default (replicate mostOperations blank) blank {n = q} (omega (arith, length-replicate mostOperations blank)))
+    (λ h. getD-replicate mostOperations q noOperation noOperation h)
+    (λ h. List·getD-eq-default (replicate mostOperations noOperation) noOperation {n = q} (omega (arith, length-replicate mostOperations noOperation)))
 
 pub lasting-start : Lasting emptyState
 lasting-start =
     record {
       full = length-replicate mostTransactions idle;
-      room = length-replicate mostOperations blank;
+      room = length-replicate mostOperations noOperation;
       few = omega arith;
       past = λ p. rw (all-blank p) (λ a. omega arith);
       blanks = λ p l. rw (all-blank p);

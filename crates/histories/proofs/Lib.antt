@@ -9,4 +9,4 @@ pub mod Responsible
 pub mod Singles
 pub mod TiesMean
 pub mod CircleIdle
-pub mod PromisesHold
+pub mod JudgePromisesHold

@@ -10,7 +10,7 @@ use Rattle.laws.proofs.Bools.{bool-cases, on-and, or-right}
 use Rattle.laws.proofs.Decisions.{same-or}
 use Rattle.ties.specs.Operations.{allHeldBy, endedAs, endedOne, endedOps, given, heldBy, isActive as isActiveOp, made, newOp, onlyActive, opAt, passedTo, rewritten, size}
 use Rattle.ties.specs.declared.Fate.{Fate}
-use Rattle.ties.specs.declared.Mark.{Mark}
+use Rattle.terms.specs.declared.Mark.{Mark}
 use Rattle.ties.specs.declared.Ops.{Ops}
 use Rattle.ties.proofs.OpsLaws.{made-at, made-room, rewritten-at}
 use Rattle.tables.specs.declared.Tables.{Tables}
@@ -19,8 +19,8 @@ use Rattle.judge.specs.Judge.{changeOf, stateAfter}
 use Rattle.judge.specs.States.{emptyState}
 use Rattle.judge.specs.declared.Change.{Change}
 use Rattle.judge.specs.declared.Change.the-variants.{Ends, EndsOne, Enters, Gives, Makes, Nothing}
-use Rattle.judge.specs.declared.Event.{Event}
-use Rattle.judge.specs.declared.Event.the-variants.{Abort, AbortOne, Begin, Commit, CommitOne, Delegate, Operation as Invoke}
+use Rattle.terms.specs.declared.Event.{Event}
+use Rattle.terms.specs.declared.Event.the-variants.{Abort, AbortOne, Begin, Commit, CommitOne, Delegate, Operation as Invoke}
 use Rattle.judge.specs.declared.State.{State}
 use Rattle.histories.proofs.Invariants.{lasting-kept, lasting-start}
 use Rattle.histories.proofs.Lasts.{Lasting, size-count}

@@ -1,5 +1,4 @@
 -- One event, accepted or refused; runs of events; what every accepted event keeps holds after any events.
-use native.Mathlib.Omega.{arith}
 use mathlib.Core.Path.{_≡_, refl, ap}
 use mathlib.Core.List.{List, [], _∷_, _++_}
 use Rattle.laws.specs.Lines.{FirstIs, Off}
@@ -11,7 +10,7 @@ use Rattle.tables.specs.declared.Tables.{Tables}
 use Rattle.histories.specs.Histories.{next, run, taken}
 use Rattle.judge.specs.Judge.{changeBy, changeOf, judged, lines, rulingOf, stateAfter}
 use Rattle.histories.specs.Promises.{OneEvent}
-use Rattle.judge.specs.declared.Event.{Event}
+use Rattle.terms.specs.declared.Event.{Event}
 use Rattle.judge.specs.declared.State.{State}
 use Rattle.judge.proofs.RuleLaws.{not-accepted}
 

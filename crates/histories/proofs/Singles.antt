@@ -1,6 +1,5 @@
 -- One operation ended alone: when it is accepted, and that nothing else changes.
 use Prim.Native.Nat.{ℕ}
-use native.Mathlib.Omega.{arith}
 use mathlib.Core.Path.{_≡_, refl, sym, subst, _∙_}
 use mathlib.Core.Bool.{true, false, not, _&&_, _||_, and-false, false≢true}
 use lib.Dec.{ltb, eqb}
@@ -10,7 +9,7 @@ use Rattle.laws.proofs.Bools.{and-off, and-rest, bool-cases, not-off, off-not, 
 use Rattle.laws.proofs.Decisions.{same-or}
 use Rattle.laws.proofs.IndexLaws.{any-off, off-any}
 use Rattle.terms.specs.declared.Verdict.the-variants.{Accepted}
-use Rattle.ties.specs.Operations.{endedAs, isAborted as isAbortedOp, isActive as isActiveOp, isWrite, onlyActive, opAt, size}
+use Rattle.ties.specs.Operations.{endedAs, isAborted as isAbortedOp, isActive as isActiveOp, onlyActive, opAt, size}
 use Rattle.ties.specs.Ties.{cleanFor, dirties, dirtyAt, readBy, tied, tiedTo}
 use Rattle.ties.specs.declared.Fate.{Fate}
 use Rattle.ties.specs.declared.Fate.the-variants.{Aborted as FateAborted, Active as FateActive, Committed as FateCommitted}
@@ -21,10 +20,11 @@ use Rattle.tables.specs.declared.Sort.{Sort}
 use Rattle.tables.specs.declared.Sort.the-variants.{Plain, Saga, Step, Undo, Unknown}
 use Rattle.tables.specs.declared.Tables.{Tables}
 use Rattle.judge.specs.Judge.{judged, stateAfter, unknown}
+use Rattle.terms.specs.Events.{isWrite}
 use Rattle.histories.specs.Promises.{EndedAlone, MayCommitOne, MayEndOne, OnlyEnds}
 use Rattle.judge.specs.States.{isActive, phaseOf}
 use Rattle.judge.specs.declared.Change.the-variants.{EndsOne}
-use Rattle.judge.specs.declared.Event.the-variants.{AbortOne, CommitOne}
+use Rattle.terms.specs.declared.Event.the-variants.{AbortOne, CommitOne}
 use Rattle.judge.specs.declared.State.{State}
 use Rattle.histories.proofs.RunLaws.{lines-off, next-ok, off-lines}
 use Rattle.histories.proofs.Steps.{commit-one-may, single-may}

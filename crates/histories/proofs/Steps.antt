@@ -13,7 +13,7 @@ use Rattle.ties.specs.Operations.{isActive as isActiveOp, mostOperations, newOp
 use Rattle.ties.specs.Ties.{mustWait, dirty, dirtyAt, onRing}
 use Rattle.ties.specs.declared.Fate.{Fate}
 use Rattle.ties.specs.declared.Fate.the-variants.{Aborted as FateAborted, Committed as FateCommitted}
-use Rattle.ties.specs.declared.Mark.{Mark}
+use Rattle.terms.specs.declared.Mark.{Mark}
 use Rattle.tables.specs.Sorts.{isPlain, isSaga, isUndo, sortOf}
 use Rattle.tables.specs.declared.Tables.{Tables}
 use Rattle.histories.specs.Histories.{next, run}
@@ -23,8 +23,8 @@ use Rattle.judge.specs.Rules.{abortBarred, beginBarred, commitBarred, declaredB
 use Rattle.judge.specs.States.{isActive, isIdle, phaseOf}
 use Rattle.judge.specs.declared.Change.{Change}
 use Rattle.judge.specs.declared.Change.the-variants.{Ends, EndsOne, Enters, Gives, Makes}
-use Rattle.judge.specs.declared.Event.{Event}
-use Rattle.judge.specs.declared.Event.the-variants.{Abort, AbortOne, Begin, Commit, CommitOne, Delegate, Operation as Invoke}
+use Rattle.terms.specs.declared.Event.{Event}
+use Rattle.terms.specs.declared.Event.the-variants.{Abort, AbortOne, Begin, Commit, CommitOne, Delegate, Operation as Invoke}
 use Rattle.judge.specs.declared.Phase.{Phase}
 use Rattle.judge.specs.declared.Phase.the-variants.{Aborted, Active, Committed, Idle}
 use Rattle.judge.specs.declared.State.{State}

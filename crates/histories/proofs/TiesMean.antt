@@ -16,7 +16,7 @@ use Rattle.histories.specs.Histories.{reached, run, whenMade}
 use Rattle.judge.specs.Judge.{stateAfter}
 use Rattle.judge.specs.States.{emptyState}
 use Rattle.judge.specs.declared.Change.{Change}
-use Rattle.judge.specs.declared.Event.{Event}
+use Rattle.terms.specs.declared.Event.{Event}
 use Rattle.judge.specs.declared.State.{State}
 use Rattle.histories.proofs.Invariants.{lasting, lasting-kept, lasting-start}
 use Rattle.histories.proofs.Lasts.{Lasting, size-count}

@@ -10,10 +10,10 @@ use lib.ListN.{length}
 use borrow.Author.Tests.{eqb-true, eq-eqb, le-ltb, lt-ltb, ne-eqb}
 use Rattle.laws.proofs.Bools.{and-on, bool-cases, clash, on-and}
 use Rattle.laws.proofs.Decisions.{lt-or, same-or}
-use Rattle.ties.specs.Operations.{allHeldBy, endedAs, blank, heldBy, isActive as isActiveOp, newOp, onlyActive, opAt, passedTo, rewritten, size}
+use Rattle.ties.specs.Operations.{allHeldBy, endedAs, noOperation, heldBy, isActive as isActiveOp, newOp, onlyActive, opAt, passedTo, rewritten, size}
 use Rattle.ties.specs.Ties.{wasActive}
 use Rattle.ties.specs.declared.Fate.{Fate}
-use Rattle.ties.specs.declared.Mark.{Mark}
+use Rattle.terms.specs.declared.Mark.{Mark}
 use Rattle.ties.specs.declared.Operation.{Operation}
 use Rattle.ties.specs.declared.Ops.{Ops}
 use Rattle.ties.proofs.OpsLaws.{count-rewritten, length-made, length-rewritten, made-at, made-room, rewritten-at}
@@ -146,7 +146,7 @@ module _ (tables : Tables) (s : State) (h : Lasting s) (p : ℕ) (low : p < s .o
       → code (phaseOf (entered phase t (s .transactions)) (opAt (s .ops) p .responsible)) ≡ 1
   other t phase a e = ap code (entered-other (s .transactions) t (opAt (s .ops) p .responsible) phase e) ∙ h .active p a
 
-  here : (which : ℕ → Operation → Bool) (how : Operation → Operation) → ((k : ℕ) → which k blank ≡ false) → {b : Bool} → which p (opAt (s .ops) p) ≡ b
+  here : (which : ℕ → Operation → Bool) (how : Operation → Operation) → ((k : ℕ) → which k noOperation ≡ false) → {b : Bool} → which p (opAt (s .ops) p) ≡ b
       → opAt (rewritten which how (s .ops)) p ≡ cond b (how (opAt (s .ops) p)) (opAt (s .ops) p)
   here which how quiet e = rewritten-at which how quiet (s .ops) p ∙ rw (lt-ltb p (size (s .ops)) (omega (arith, size-count s h)), e)
 
@@ -274,7 +274,7 @@ new tables s c w h p l =
       others = λ q g. made-at (newOp t o m) (s .ops) (h .room) (f .room) q ∙ rw (ne-eqb q (s .ops .count) (λ i. omega arith));
     })
 
-past-rewritten : (s : State) → Lasting s → (which : ℕ → Operation → Bool) (how : Operation → Operation) → ((k : ℕ) → which k blank ≡ false)
+past-rewritten : (s : State) → Lasting s → (which : ℕ → Operation → Bool) (how : Operation → Operation) → ((k : ℕ) → which k noOperation ≡ false)
     → (p : ℕ) → rewritten which how (s .ops) .count ≤ p → opAt (rewritten which how (s .ops)) p ≡ opAt (s .ops) p
 past-rewritten s h which how quiet p l =
     rewritten-at which how quiet (s .ops) p ∙ rw (le-ltb p (size (s .ops)) (omega (arith, size-count s h, count-rewritten which how quiet (s .ops))))

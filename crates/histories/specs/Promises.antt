@@ -1,14 +1,14 @@
 -- What is promised of judging, one event and any run of events.
 use Prim.Native.Nat.{ℕ, _<_}
 use mathlib.Core.Path.{_≡_}
-use mathlib.Core.Bool.{Bool, true, false, cond, _&&_}
+use mathlib.Core.Bool.{true, false, cond, _&&_}
 use lib.Dec.{eqb}
 use mathlib.Core.Logic.{_↔_}
 use mathlib.Core.List.{List}
 use Rattle.laws.specs.Lines.{Off, FirstIs}
 use Rattle.terms.specs.declared.Refusal.{Refusal}
 use Rattle.terms.specs.declared.Verdict.the-variants.{Accepted, Refused}
-use Rattle.ties.specs.Operations.{isActive as isActiveOperation, isWrite, opAt, size, heldBy, endedAs}
+use Rattle.ties.specs.Operations.{isActive as isActiveOperation, opAt, size, heldBy, endedAs}
 use Rattle.ties.specs.Ties.{conflict, tied, cleanFor, onRing}
 use Rattle.ties.specs.declared.Fate.{Fate}
 use Rattle.ties.specs.declared.Fate.the-variants.{Committed, Aborted}
@@ -18,11 +18,12 @@ use Rattle.tables.specs.Sorts.{isPlain, sortOf}
 use Rattle.tables.specs.declared.Tables.{Tables}
 use Rattle.judge.specs.declared.Phase.the-variants.{Idle}
 use Rattle.judge.specs.declared.State.{State}
-use Rattle.judge.specs.declared.Event.{Event}
-use Rattle.judge.specs.declared.Event.the-variants.{Commit, Abort, CommitOne, AbortOne}
+use Rattle.terms.specs.declared.Event.{Event}
+use Rattle.terms.specs.declared.Event.the-variants.{Commit, Abort, CommitOne, AbortOne}
 use Rattle.judge.specs.States.{isActive, phaseOf, emptyState}
 use Rattle.judge.specs.Judge.{lines, judged}
-use Rattle.histories.specs.Histories.{run, reached, history, responsibleIn, whenMade}
+use Rattle.terms.specs.Events.{isWrite}
+use Rattle.histories.specs.Histories.{reached, history, responsibleIn, whenMade}
 
 -- one event, in any state
 pub record OneEvent (tables : Tables) (s : State) (e : Event) : Type 0 where

@@ -1,41 +1,28 @@
--- Judging one event (document 01, 'What comes back'): for each event one list of lines in the order of judging; the verdict is the first
+-- Judging one event (docs/RULES.md, 4 Refusals): for each event one list of lines in the order of judging; the verdict is the first
 -- line that holds; what an accepted event changes; the state after it.
-use Prim.Native.Nat.{ℕ, min}
+use Prim.Native.Nat.{ℕ}
 use mathlib.Core.Bool.{Bool, true, false, not, _&&_, _||_}
 use mathlib.Core.List.{List, [], _∷_, _++_}
 use lib.Dec.{ltb, leb, eqb}
 use Rattle.laws.specs.Lines.{Line, line, firstLine}
-use Rattle.terms.specs.Limits.{mostObjects}
 use Rattle.terms.specs.declared.Refusal.{Refusal}
-use Rattle.terms.specs.declared.Refusal.the-variants.{
-  NotInTables,
-  NeverDoes,
-  NotIdle,
-  NotActive,
-  NotResponsible,
-  SagaRule,
-  DependencyRule,
-  DirtyRead,
-  OnRing,
-  MustWait,
-  Full,
-  AlreadyEnded,
-}
+use Rattle.terms.specs.declared.Refusal.the-variants.{NotInTables, NeverDoes, NotIdle, NotActive, NotResponsible, SagaRule, DependencyRule, DirtyRead, OnRing, MustWait, Full, AlreadyEnded}
 use Rattle.terms.specs.declared.Verdict.{Verdict}
 use Rattle.terms.specs.declared.Verdict.the-variants.{Accepted, Refused}
 use Rattle.ties.specs.Operations.{mostOperations, isActive as isActiveOperation, opAt, size, newOp, made, given, endedOne, endedOps}
 use Rattle.ties.specs.Ties.{onRing, dirtyAt, dirty, mustWait}
-use Rattle.ties.specs.declared.Mark.{Mark}
+use Rattle.terms.specs.declared.Mark.{Mark}
 use Rattle.ties.specs.declared.Fate.the-variants.{Committed as FateCommitted, Aborted as FateAborted}
 use Rattle.ties.specs.declared.Ops.{Ops}
+use Rattle.tables.specs.Counts.{objectCount}
 use Rattle.tables.specs.Sorts.{sortOf, isKnown, isSaga, isUndo, isPlain}
 use Rattle.tables.specs.declared.Sort.{Sort}
 use Rattle.tables.specs.declared.Tables.{Tables}
 use Rattle.judge.specs.declared.Phase.the-variants.{Active, Committed, Aborted}
 use Rattle.judge.specs.declared.Transaction.{Transaction}
 use Rattle.judge.specs.declared.State.{State}
-use Rattle.judge.specs.declared.Event.{Event}
-use Rattle.judge.specs.declared.Event.the-variants.{Begin, Commit, Abort, Operation as Invoke, Delegate, CommitOne, AbortOne}
+use Rattle.terms.specs.declared.Event.{Event}
+use Rattle.terms.specs.declared.Event.the-variants.{Begin, Commit, Abort, Operation as Invoke, Delegate, CommitOne, AbortOne}
 use Rattle.judge.specs.declared.Change.{Change}
 use Rattle.judge.specs.declared.Change.the-variants.{Nothing, Enters, Ends, EndsOne, Makes, Gives}
 use Rattle.judge.specs.declared.Ruling.{Ruling}
@@ -50,7 +37,7 @@ unknown tables t = not (isKnown (sortOf tables t))
 
 -- no more objects than there may be, whatever the tables say
 abbrev pub unknownObject : Tables → ℕ → Bool
-unknownObject tables o = not (ltb o (min (tables .objects) mostObjects))
+unknownObject tables o = not (ltb o (objectCount tables))
 
 abbrev pub inactive : List Transaction → ℕ → Bool
 inactive ts t = not (isActive (phaseOf ts t))

@@ -1,10 +1,10 @@
 -- Saga rules (refusal 13) and declared dependencies (refusal 14): each definition that ends in `Barred` or `Bars` says that the rule forbids the event.
-use Prim.Native.Nat.{ℕ, _+_, _-_, min}
+use Prim.Native.Nat.{ℕ, _+_, _-_}
 use mathlib.Core.Bool.{Bool, true, false, not, _&&_, _||_}
 use mathlib.Core.List.{List}
 use lib.Dec.{ltb, leb, eqb}
 use Rattle.laws.specs.Index.{anyBelow}
-use Rattle.terms.specs.Limits.{mostDependencies}
+use Rattle.tables.specs.Counts.{dependencyCount}
 use Rattle.tables.specs.Dependencies.{dependencyAt}
 use Rattle.tables.specs.declared.Kind.{Kind}
 use Rattle.tables.specs.declared.Kind.the-variants.{Commit, Abort, WeakAbort, Begin, Serial, BeginOnCommit, BeginOnAbort}
@@ -94,4 +94,4 @@ barredBy begins ts t d = eqb (d .dependent) t && kindBars begins (d .kind) (phas
 
 -- some declared dependency does; no more are declared than there is room for
 unfoldable pub declaredBars : Bool → Tables → List Transaction → ℕ → Bool
-declaredBars begins tables ts t = anyBelow (min (tables .declared) mostDependencies) (λ i. barredBy begins ts t (dependencyAt tables i))
+declaredBars begins tables ts t = anyBelow (dependencyCount tables) (λ i. barredBy begins ts t (dependencyAt tables i))

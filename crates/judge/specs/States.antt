@@ -1,4 +1,4 @@
--- The state (document 01, 'States and who may act'): "A transaction is idle, active, committed or aborted."
+-- The state (docs/RULES.md, 2 States and who may act): "A transaction is idle, active, committed or aborted."
 use Prim.Native.Nat.{ℕ, _+_}
 use mathlib.Core.Bool.{Bool, true, false, _||_}
 use mathlib.Core.List.{List}
@@ -53,6 +53,10 @@ phaseOf ts t = getD ts t idle .phase
 abbrev pub own : List Transaction → ℕ → ℕ → Phase
 own ts f k = phaseOf ts (f + k)
 
+-- the transaction in another phase, with whatever else it has
+abbrev pub inPhase : Phase → Transaction → Transaction
+inPhase p x = record { phase = p }
+
 -- t enters a phase
 unfoldable pub entered : Phase → ℕ → List Transaction → List Transaction
-entered p t ts = set ts t (record { phase = p })
+entered p t ts = set ts t (inPhase p (getD ts t idle))

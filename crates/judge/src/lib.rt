@@ -3,23 +3,21 @@ use tables::Kind;
 use tables::Sort;
 use tables::Tables;
 use terms::Book;
+use terms::Event;
+use terms::Mark;
 use terms::Refusal;
 use terms::Verdict;
 use ties::Fate;
-use ties::Mark;
 use ties::Operation;
 use ties::Ops;
 ghost use mathlib.Core.Path.{_≡_};
 ghost use mathlib.Core.Bool.{_&&_};
-ghost use Prim.Native.Nat.{min};
-ghost use lib.Dec.{ltb};
-ghost use Rattle.terms.specs.Limits.{mostObjects};
 ghost use Rattle.ties.specs.Ties.{mustWait};
 ghost use Rattle.tables.specs.Sorts.{isUndo};
-ghost use Rattle.judge.specs.States.{isIdle, isActive, isCommitted, isAborted, emptyState, phaseOf, own, entered};
+ghost use Rattle.judge.specs.States.{isIdle, isActive, isCommitted, isAborted, emptyState, phaseOf, own, inPhase, entered};
 ghost use Rattle.judge.specs.Rules.{stepBegins, undoBegins, beginBarred, commitBarred, abortBarred, commitBars, beginBars, kindBars, declaredBars};
 ghost use Rattle.judge.specs.Judge.{beginLines, commitLines, abortLines, operationLines, delegateLines, singleLines, commitOneLines, verdictBy, noParty, changeOf, ruledBy, refusedBy, rulingOf, stateAfter, judged};
-ghost use Rattle.judge.specs.declared.Event.the-variants.{Begin, Commit, Abort, Operation as Invoke, Delegate, CommitOne, AbortOne};
+ghost use Rattle.terms.specs.declared.Event.the-variants.{Begin, Commit, Abort, Operation as Invoke, Delegate, CommitOne, AbortOne};
 
 // How a transaction stands.
 pub enum Phase {
@@ -37,17 +35,6 @@ pub struct Transaction {
 pub struct State {
     pub transactions: [Transaction; Book::TRANSACTIONS],
     pub ops: Ops,
-}
-
-// One event of a book, with its fields.
-pub enum Event {
-    Begin(usize),
-    Commit(usize),
-    Abort(usize),
-    Operation(usize, usize, Mark),
-    Delegate(usize, usize, usize),
-    CommitOne(usize, usize),
-    AbortOne(usize, usize),
 }
 
 // What an accepted event changes: a transaction enters a phase; or ends, and its operations with it; an operation ends alone; is made;
@@ -119,6 +106,15 @@ impl Phase {
     }
 }
 
+impl Transaction {
+    // In another phase, with whatever else it has.
+    fn in_phase(self, phase: Phase) -> Transaction
+        ensures { λ r. ⌜ r ≡ inPhase phase self ⌝ }
+    {
+        Transaction { phase }
+    }
+}
+
 // The phase of t; what is no transaction is idle.
 pub fn phase_of(transactions: [Transaction; Book::TRANSACTIONS], t: usize) -> Phase
     ensures { λ r. ⌜ r ≡ phaseOf transactions t ⌝ }
@@ -148,7 +144,8 @@ fn entered(
 {
     let mut next = transactions;
     if t < Book::TRANSACTIONS {
-        next[t] = Transaction { phase };
+        let x = transactions[t];
+        next[t] = x.in_phase(phase);
     }
     next
 }
@@ -276,11 +273,7 @@ fn declared_bars(
 ) -> bool
     ensures { λ r. ⌜ r ≡ declaredBars begins tables transactions t ⌝ }
 {
-    let declared = tables.declared;
-    let mut n: usize = Book::DEPENDENCIES;
-    if declared < Book::DEPENDENCIES {
-        n = declared;
-    }
+    let n = tables.dependency_count();
     let mut i: usize = 0;
     while i < n {
         let d = tables.dependencies[i];
@@ -300,15 +293,6 @@ fn declared_bars(
         i += 1;
     }
     false
-}
-
-fn is_object(objects: usize, o: usize) -> bool
-    ensures { λ r. ⌜ r ≡ ltb o (min objects mostObjects) ⌝ }
-{
-    if objects < Book::OBJECTS {
-        return o < objects;
-    }
-    o < Book::OBJECTS
 }
 
 // A saga and an undo take no part in a delegation.
@@ -428,10 +412,10 @@ fn operation(
 ) -> Ruling
     ensures { λ r. ⌜ r ≡ ruledBy (operationLines tables transactions ops t object mark) (changeOf (Invoke t object mark)) ⌝ }
 {
-    let objects = tables.objects;
+    let objects = tables.object_count();
     let count = ops.count;
     let sort = tables::sort_of(tables, t);
-    if !sort.is_known() | !is_object(objects, object) {
+    if !sort.is_known() | !(object < objects) {
         return refused(Refusal::NotInTables);
     }
     if sort.is_saga() {

@@ -1,7 +1,7 @@
 -- Truth values. A name that begins with the connective puts it together (`or-off`), one that ends with it takes it apart (`off-or`);
 -- `on` is true, `off` is false.
 use mathlib.Core.Path.{_≡_, refl, sym, ap, _∙_}
-use mathlib.Core.Bool.{Bool, true, false, cond, not, _&&_, _||_, true≢false, false≢true}
+use mathlib.Core.Bool.{Bool, true, false, not, _&&_, _||_, true≢false, false≢true}
 use mathlib.Core.Logic.{_⊎_, inl, inr}
 
 -- ---- or

@@ -1,6 +1,5 @@
 -- Lines: none holds exactly when the answer is `otherwise`, and a refusal is given exactly when it is that of the first line that holds.
 use mathlib.Core.Path.{_≡_, refl, sym, ap, _∙_}
-use mathlib.Core.Bool.{Bool, true, false, cond}
 use mathlib.Core.List.{List, [], _∷_, _++_}
 use Rattle.laws.specs.Lines.{Line, firstLine, Off, FirstIs}
 use Rattle.laws.proofs.Bools.{bool-cases}

@@ -1,6 +1,4 @@
 -- Laws of texts, of numbers in decimal, and of the lines of the listing.
 pub mod TextLaws
 pub mod DigitLaws
-pub mod CountLaws
 pub mod ListingLaws
-pub mod CasesHold

@@ -12,8 +12,8 @@ use Rattle.terms.specs.Refusals.{numberOf}
 use Rattle.terms.specs.declared.Verdict.{Verdict}
 use Rattle.terms.specs.declared.Verdict.the-variants.{Accepted, Refused}
 use Rattle.ties.specs.Operations.{opAt}
-use Rattle.ties.specs.declared.Mark.{Mark}
-use Rattle.ties.specs.declared.Mark.the-variants.{Read, Write}
+use Rattle.terms.specs.declared.Mark.{Mark}
+use Rattle.terms.specs.declared.Mark.the-variants.{Read, Write}
 use Rattle.ties.specs.declared.Fate.{Fate}
 use Rattle.ties.specs.declared.Fate.the-variants.{Aborted as FateAborted, Active as FateActive, Committed as FateCommitted}
 use Rattle.ties.specs.declared.Operation.{Operation}
@@ -24,48 +24,33 @@ use Rattle.closing.specs.Closing.{outstanding, closing}
 use Rattle.closing.specs.declared.NextStep.{NextStep}
 use Rattle.closing.specs.declared.NextStep.the-variants.{NoStep, ToBegin, ToCommit, ToAbort}
 use Rattle.book.specs.declared.Reading.{Reading}
+use Rattle.ties.specs.Operations.{size}
+use Rattle.tables.specs.Counts.{transactionCount}
 use Rattle.listing.specs.declared.Text.{Text}
 use Rattle.listing.specs.declared.Placed.{Placed}
 use Rattle.listing.specs.declared.Placed.the-variants.{Wrote, NoRoom, NoLine}
 use Rattle.listing.specs.Texts.{mostText, textOf, withAll}
-use Rattle.listing.specs.Lines.{
-  phaseWord,
-  fateWord,
-  markWord,
-  stepWords,
-  firstLineBy,
-  transactionLine,
-  operationLineOf,
-  operationLine,
-  sagaLine,
-  transactionLines,
-  operationLines,
-  lineCount,
-  laterLine,
-  lineOf,
-  placeAnswer,
-  placeRoom,
-}
+use Rattle.listing.specs.Lines.{phaseWord, fateWord, markWord, stepWords, firstLineBy, transactionLine, operationLineOf, operationLine, sagaLine, lineCount, laterLine, lineOf, placeAnswer, placeRoom}
 use Rattle.listing.proofs.TextLaws.{all-fits}
 use Rattle.listing.proofs.DigitLaws.{decimal-le}
 
 -- ---- which line is which
 
-module _ (r : Reading) (k n : ℕ) (e : n ≡ transactionLines r) where
+module _ (r : Reading) (k n : ℕ) (e : n ≡ transactionCount (r .tables)) where
   pub later-transaction : k < n → laterLine r k ≡ transactionLine r k
   unfolding laterLine
-  later-transaction h = rw (lt-ltb k (transactionLines r) (omega arith))
+  later-transaction h = rw (lt-ltb k (transactionCount (r .tables)) (omega arith))
 
-  module _ (m : ℕ) (d : m ≡ operationLines r) (l : n ≤ k) where
+  module _ (m : ℕ) (d : m ≡ size (r .state .ops)) (l : n ≤ k) where
     pub later-operation : k - n < m → laterLine r k ≡ operationLine r (k - n)
     unfolding laterLine
     later-operation h =
-        rw (le-ltb k (transactionLines r) (omega arith), ← e, ← d, lt-ltb (k - n) m h)
+        rw (le-ltb k (transactionCount (r .tables)) (omega arith), ← e, ← d, lt-ltb (k - n) m h)
 
     pub later-saga : m ≤ k - n → laterLine r k ≡ sagaLine r (k - n - m)
     unfolding laterLine
     later-saga h =
-        rw (le-ltb k (transactionLines r) (omega arith), ← e, ← d, le-ltb (k - n) m h)
+        rw (le-ltb k (transactionCount (r .tables)) (omega arith), ← e, ← d, le-ltb (k - n) m h)
 
 pub line-first : (r : Reading) (k : ℕ) → k ≡ 0 → lineOf r k ≡ firstLineBy (r .answer) (r .events) (r .place)
 unfolding lineOf
@@ -124,10 +109,10 @@ pub line-fits : (r : Reading) (k : ℕ) → length (lineOf r k) < mostText
 unfolding lineOf laterLine
 line-fits r k =
     either-fits (eqb k 0) _ _ (first-fits (r .answer) (r .events) (r .place))
-    (either-fits (ltb (k - 1) (transactionLines r)) _ _ (transaction-fits r (k - 1))
-    (either-fits (ltb (k - 1 - transactionLines r) (operationLines r)) _ _
-    (operation-fits (k - 1 - transactionLines r) (opAt (r .state .ops) (k - 1 - transactionLines r)))
-    (saga-fits r (k - 1 - transactionLines r - operationLines r))))
+    (either-fits (ltb (k - 1) (transactionCount (r .tables))) _ _ (transaction-fits r (k - 1))
+    (either-fits (ltb (k - 1 - transactionCount (r .tables)) (size (r .state .ops))) _ _
+    (operation-fits (k - 1 - transactionCount (r .tables)) (opAt (r .state .ops) (k - 1 - transactionCount (r .tables))))
+    (saga-fits r (k - 1 - transactionCount (r .tables) - size (r .state .ops)))))
 
 -- the bytes that a text shows are as many as it says
 shown : (t : Text) (l : List ℕ) → length (t .bytes) ≡ mostText → textOf t ≡ l → min (t .len) mostText ≡ length l

@@ -2,4 +2,3 @@
 pub mod Words
 pub mod Texts
 pub mod Lines
-pub mod Cases

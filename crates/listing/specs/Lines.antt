@@ -1,22 +1,21 @@
--- The listing (document 01, 'The listing'): "Line 1: events accepted; or `book refused`, number, events, place. `t`: number, state. `op`: number,
+-- The listing (docs/RULES.md, 7 The listing): "Line 1: events accepted; or `book refused`, number, events, place. `t`: number, state. `op`: number,
 -- object, mark, responsible, state. `saga`: index, outstanding, closing step and its transaction, or `none`. The kinds of line come in this order,
 -- each by rising number. If the tables are refused only line 1 is printed." Refused tables are empty, so that no other line is left then.
-use Prim.Native.Nat.{ℕ, _+_, _-_, min}
+use Prim.Native.Nat.{ℕ, _+_, _-_}
 use mathlib.Core.Bool.{cond}
 use mathlib.Core.List.{List, _++_}
 use lib.Dec.{ltb, leb, eqb}
 use lib.ListN.{length, drop}
-use Rattle.terms.specs.Limits.{mostSagas, mostTransactions}
 use Rattle.terms.specs.Refusals.{numberOf}
 use Rattle.terms.specs.declared.Verdict.{Verdict}
 use Rattle.terms.specs.declared.Verdict.the-variants.{Accepted, Refused}
 use Rattle.ties.specs.Operations.{opAt, size}
-use Rattle.ties.specs.declared.Mark.{Mark}
-use Rattle.ties.specs.declared.Mark.the-variants.{Read, Write}
+use Rattle.terms.specs.declared.Mark.{Mark}
+use Rattle.terms.specs.declared.Mark.the-variants.{Read, Write}
 use Rattle.ties.specs.declared.Fate.{Fate}
 use Rattle.ties.specs.declared.Fate.the-variants.{Aborted as FateAborted, Active as FateActive, Committed as FateCommitted}
 use Rattle.ties.specs.declared.Operation.{Operation}
-use Rattle.tables.specs.Sorts.{numberOfAll}
+use Rattle.tables.specs.Counts.{transactionCount, sagaCount}
 use Rattle.judge.specs.States.{phaseOf}
 use Rattle.judge.specs.declared.Phase.{Phase}
 use Rattle.judge.specs.declared.Phase.the-variants.{Idle, Active, Committed, Aborted}
@@ -26,26 +25,7 @@ use Rattle.closing.specs.declared.NextStep.the-variants.{NoStep, ToBegin, ToCom
 use Rattle.book.specs.declared.Reading.{Reading}
 use Rattle.listing.specs.declared.Placed.{Placed}
 use Rattle.listing.specs.declared.Placed.the-variants.{Wrote, NoRoom, NoLine}
-use Rattle.listing.specs.Words.{
-  bookAccepted,
-  bookRefused,
-  transactionWord,
-  operationWord,
-  sagaWord,
-  idleWord,
-  activeWord,
-  committedWord,
-  abortedWord,
-  readWord,
-  writeWord,
-  noneWord,
-  beginWord,
-  commitWord,
-  abortWord,
-  blank,
-  lineFeed,
-  decimal,
-}
+use Rattle.listing.specs.Words.{bookAccepted, bookRefused, transactionWord, operationWord, sagaWord, idleWord, activeWord, committedWord, abortedWord, readWord, writeWord, noneWord, beginWord, commitWord, abortWord, blank, lineFeed, decimal}
 
 -- ---- the words of states, marks and steps
 
@@ -93,25 +73,15 @@ sagaLine r i =
 
 -- ---- which line is which
 
--- how many there are of each kind; no more than there is room for, whatever the tables say
-abbrev pub transactionLines : Reading → ℕ
-transactionLines r = min (numberOfAll (r .tables)) mostTransactions
-
-abbrev pub operationLines : Reading → ℕ
-operationLines r = size (r .state .ops)
-
-abbrev pub sagaLines : Reading → ℕ
-sagaLines r = min (r .tables .sagas) mostSagas
-
 unfoldable pub lineCount : Reading → ℕ
-lineCount r = 1 + (transactionLines r + (operationLines r + sagaLines r))
+lineCount r = 1 + (transactionCount (r .tables) + (size (r .state .ops) + sagaCount (r .tables)))
 
 -- the k-th of those after the first
 unfoldable pub laterLine : Reading → ℕ → List ℕ
 laterLine r k =
-    cond (ltb k (transactionLines r)) (transactionLine r k)
-    (cond (ltb (k - transactionLines r) (operationLines r)) (operationLine r (k - transactionLines r))
-    (sagaLine r (k - transactionLines r - operationLines r)))
+    cond (ltb k (transactionCount (r .tables))) (transactionLine r k)
+    (cond (ltb (k - transactionCount (r .tables)) (size (r .state .ops))) (operationLine r (k - transactionCount (r .tables)))
+    (sagaLine r (k - transactionCount (r .tables) - size (r .state .ops))))
 
 -- line k, counted from 0
 unfoldable pub lineOf : Reading → ℕ → List ℕ

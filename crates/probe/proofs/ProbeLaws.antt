@@ -1,13 +1,13 @@
 -- The probe's answer from what each of its calls answers.
 use Prim.Native.Nat.{ℕ, _+_, _*_, _≤_, _<_}
 use native.Mathlib.Omega.{arith}
-use mathlib.Core.Path.{_≡_, sym, ap, _∙_}
+use mathlib.Core.Path.{_≡_, ap, _∙_}
 use borrow.Author.Tests.{le-leb, lt-leb}
 use Rattle.terms.specs.Refusals.{verdictNumber}
 use Rattle.ties.specs.Operations.{mostOperations, opAt}
 use Rattle.tables.specs.declared.Tables.{Tables}
 use Rattle.judge.specs.Judge.{judged}
-use Rattle.judge.specs.declared.Event.{Event}
+use Rattle.terms.specs.declared.Event.{Event}
 use Rattle.judge.specs.declared.Judged.{Judged}
 use Rattle.judge.specs.declared.State.{State}
 use Rattle.probe.specs.Probed.{plainTables, busyState, eventBy, probed}

@@ -7,13 +7,13 @@ use Rattle.terms.specs.Limits.{mostTransactions}
 use Rattle.terms.specs.Refusals.{verdictNumber}
 use Rattle.ties.specs.Operations.{mostOperations, opAt}
 use Rattle.ties.specs.declared.Fate.the-variants.{Active as FateActive}
-use Rattle.ties.specs.declared.Mark.the-variants.{Write}
+use Rattle.terms.specs.declared.Mark.the-variants.{Write}
 use Rattle.ties.specs.declared.Operation.{Operation}
 use Rattle.tables.specs.Reading.{emptyTables, withCounts}
 use Rattle.tables.specs.declared.Tables.{Tables}
 use Rattle.judge.specs.Judge.{judged}
-use Rattle.judge.specs.declared.Event.{Event}
-use Rattle.judge.specs.declared.Event.the-variants.{Begin, Commit, Abort, Operation as Invoke, Delegate, CommitOne, AbortOne}
+use Rattle.terms.specs.declared.Event.{Event}
+use Rattle.terms.specs.declared.Event.the-variants.{Begin, Commit, Abort, Operation as Invoke, Delegate, CommitOne, AbortOne}
 use Rattle.judge.specs.declared.Phase.the-variants.{Active}
 use Rattle.judge.specs.declared.State.{State}
 

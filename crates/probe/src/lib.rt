@@ -1,13 +1,13 @@
 // A caller of the judge as a till program is one: tables and a state in its own frame, and one event judged. bench/stack runs it to see how much
 // stack that takes.
-use judge::Event;
 use judge::Phase;
 use judge::State;
 use judge::Transaction;
 use tables::Tables;
 use terms::Book;
+use terms::Event;
+use terms::Mark;
 use ties::Fate;
-use ties::Mark;
 use ties::Operation;
 use ties::Ops;
 ghost use mathlib.Core.Path.{_≡_};

@@ -1,4 +1,4 @@
--- The report (document 01, 'Closing' and 'Ties'): "how many transactions are active and the lowest such number, 64 if there is none"; "for every
+-- The report (docs/RULES.md, 6 Closing and 3 Ties): "how many transactions are active and the lowest such number, 64 if there is none"; "for every
 -- ordered pair of transactions, whether the first stands before the second by one tie".
 use Prim.Native.Nat.{ℕ}
 use mathlib.Core.Bool.{Bool}

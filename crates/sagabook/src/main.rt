@@ -1,11 +1,36 @@
-// Reads a book from standard input and writes its listing to standard output. Called with the word `old` it reads an old book, whose tables
-// may be such as can never move.
+// Reads a book from standard input and writes its listing to standard output. The word `permit-circles` reads a book whose tables wait for
+// each other in a circle, too. What it could not read, write or understand it says on standard error, and nothing else stands there.
 use book::Reading;
+use input::Filled;
 use libc::STDERR_FILENO;
 use libc::STDIN_FILENO;
 use libc::STDOUT_FILENO;
 use listing::Placed;
 use listing::Text;
+
+// What the words on the command line ask for.
+enum Asked {
+    Listing,
+    ListingWithCircles,
+    Unknown,
+}
+
+// A word that is longer than the one that is known is not that one.
+fn asked_for() -> Asked {
+    let words = os::arg_count();
+    if words <= 1 {
+        return Asked::Listing;
+    }
+    if 2 < words {
+        return Asked::Unknown;
+    }
+    let mut word = [0u8; 14];
+    let n = os::arg(1, &mut word);
+    if check::same(&word[..n], b"permit-circles") {
+        return Asked::ListingWithCircles;
+    }
+    Asked::Unknown
+}
 
 // Writes line k of a listing; whether all of it was taken.
 fn print_line(reading: Reading, k: usize) -> bool {
@@ -30,30 +55,34 @@ fn print_listing(reading: Reading) -> bool {
     true
 }
 
-// Whether the word after the program's name is `old`; a word that the room does not hold counts as none.
-fn is_old() -> bool {
-    let mut word = [0u8; 3];
-    let n = os::arg(1, &mut word);
-    (n == 3) & ((word[0] == b'o') & ((word[1] == b'l') & (word[2] == b'd')))
-}
-
-fn read_as(old: bool, bytes: &[u8]) -> Reading {
-    if old {
-        return book::read_old(bytes);
+fn read_as(circles: bool, bytes: &[u8]) -> Reading {
+    if circles {
+        return book::read_permitting_circles(bytes);
     }
     book::read(bytes)
 }
 
-// One byte more than a book may have is enough to know that it is too long.
-fn main() {
+// Reads the book and lists it; a book that was not read gets no verdict. One byte more than a book may have is enough to know that it is too
+// long.
+fn list(circles: bool) {
     let mut bytes = [0u8; 65537];
-    let n = io::read_full(STDIN_FILENO, &mut bytes);
-    let old = is_old();
-    let reading = read_as(old, &bytes[..n]);
+    let filled = input::fill(STDIN_FILENO, &mut bytes);
+    let Filled::Whole(n) = filled else {
+        os::fail(b"sagabook: the book was not read");
+        return;
+    };
+    let reading = read_as(circles, &bytes[..n]);
     if !print_listing(reading) {
-        io::write_all(
-            STDERR_FILENO,
-            b"sagabook: the listing was not written whole\n",
-        );
+        os::fail(b"sagabook: the listing was not written whole");
+    }
+}
+
+fn main() {
+    match asked_for() {
+        Asked::Listing => list(false),
+        Asked::ListingWithCircles => list(true),
+        Asked::Unknown => {
+            io::write_all(STDERR_FILENO, b"usage: sagabook [permit-circles] < BOOK\n");
+        }
     }
 }

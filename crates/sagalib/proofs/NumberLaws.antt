@@ -8,7 +8,7 @@ use lib.Seq.{length-take-le}
 use Rattle.terms.specs.Refusals.{verdictNumber}
 use Rattle.terms.specs.declared.Refusal.{Refusal}
 use Rattle.number.specs.Number.{ceiling1}
-use Rattle.fields.specs.Fields.{encodes, fieldsBefore}
+use Rattle.packing.specs.Fields.{encodes, fieldsBefore}
 use Rattle.closing.specs.Closing.{outstanding, closing}
 use Rattle.closing.specs.declared.NextStep.{NextStep}
 use Rattle.book.specs.Reading.{openingOf}
@@ -21,18 +21,7 @@ use Rattle.book.proofs.OpeningLaws.{opening-le}
 use Rattle.book.proofs.PackingLaws.{wrote-all}
 use Rattle.listing.specs.Lines.{placeAnswer}
 use Rattle.listing.specs.declared.Placed.{Placed}
-use Rattle.sagalib.specs.Numbers.{
-  reading,
-  four,
-  readNumbers,
-  outcomeNumbers,
-  unpackNumbers,
-  writeNumbers,
-  lineOutcome,
-  lineNumbers,
-  stepNumbers,
-  nextNumbers,
-}
+use Rattle.sagalib.specs.Numbers.{reading, four, readNumbers, outcomeNumbers, unpackNumbers, writeNumbers, lineOutcome, lineNumbers, stepNumbers, nextNumbers}
 
 -- ---- reading, and what rests on a reading
 

@@ -1,4 +1,4 @@
--- The numbers in which an answer crosses to a program in C or Rust (document 01, 'What comes back'): "It returns number, events accepted and
+-- The numbers in which an answer crosses to a program in C or Rust (docs/RULES.md, 5 Reading, opening, writing, unpacking): "It returns number, events accepted and
 -- place", and "After success the answer is the number of bytes or fields written".
 use Prim.Native.Nat.{ℕ}
 use mathlib.Core.List.{List, [], _∷_}
@@ -6,7 +6,7 @@ use lib.ListN.{length}
 use Rattle.terms.specs.Refusals.{numberOf, verdictNumber}
 use Rattle.terms.specs.declared.Refusal.the-variants.{NoRoom}
 use Rattle.number.specs.Number.{ceiling1}
-use Rattle.fields.specs.Fields.{encodes}
+use Rattle.packing.specs.Fields.{encodes}
 use Rattle.closing.specs.Closing.{outstanding, closing}
 use Rattle.closing.specs.declared.NextStep.{NextStep}
 use Rattle.closing.specs.declared.NextStep.the-variants.{NoStep, ToBegin, ToCommit, ToAbort}

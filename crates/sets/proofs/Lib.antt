@@ -3,3 +3,4 @@ pub mod SetLaws
 pub mod ReachLaws
 pub mod OutwardLaws
 pub mod RowLaws
+pub mod FollowingHolds

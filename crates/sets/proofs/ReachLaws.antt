@@ -1,10 +1,10 @@
 -- The closure of a table holds at (a, b) exactly when following the table leads from a to b.
-use Prim.Native.Nat.{ℕ, zero, suc, _≤_, _<_}
+use Prim.Native.Nat.{ℕ, zero, suc, _<_}
 use native.Mathlib.Nat.{not-suc-le-zero}
 use native.Mathlib.Omega.{arith}
 use mathlib.Core.Path.{_≡_, refl, sym, ap, _∙_, subst, fun-ext}
 use mathlib.Core.Bool.{Bool, true, false, cond, _&&_, _||_, or-false}
-use mathlib.Core.Logic.{_⊎_, inl, inr, ⊎-elim, _↔_}
+use mathlib.Core.Logic.{_⊎_, inl, inr, ⊎-elim}
 use mathlib.Core.List.{List, [], _∷_}
 use lib.Dec.{ltb}
 use lib.ListN.{getD, List·getD-map}
@@ -14,7 +14,7 @@ use Rattle.laws.proofs.Bools.{or-left, or-right, or-cases, and-on, on-and}
 use Rattle.laws.proofs.Decisions.{same-or}
 use Rattle.laws.proofs.IndexLaws.{grid-at}
 use Rattle.laws.proofs.SameLaws.{tabulate-same}
-use Rattle.sets.specs.Reach.{Leads, among, at, orRow, pivot, closed, leadsTo, Following}
+use Rattle.sets.specs.Reach.{Leads, among, at, orRow, pivot, closed, leadsTo}
 
 getD-orRow : (xs ys : List Bool) (b : ℕ) → getD (orRow xs ys) b false ≡ (getD xs b false || getD ys b false)
 unfolding orRow
@@ -127,16 +127,3 @@ unfolding leadsTo
 leads-same n R Q h a b =
     ap (λ (rows : List (List Bool)). at (closed n rows) a b)
     (tabulate-same n (λ x. tabulate n (R x)) (λ x. tabulate n (Q x)) (λ x l. tabulate-same n (R x) (Q x) (λ y m. h x y l m)))
-
-pub following : Following
-following =
-    record {
-      exact = λ n R a b. (computed-leads n R a b, leads-computed n R a b);
-      monotone = λ n R Q f a b h. leads-computed n Q a b
-          (leads-more
-          (λ x y e.
-          let p = on-and (ltb x n) (ltb y n && R x y) e in
-          let q = on-and (ltb y n) (R x y) (p .1) in
-          and-on (ltb x n) (ltb y n && Q x y) (p .0) (and-on (ltb y n) (Q x y) (q .0) (f x y (q .1))))
-          (computed-leads n R a b h));
-    }

@@ -1,4 +1,4 @@
--- Sets of transactions, held as the bits of one number (document 01, 'Closing': "sets of transactions are held as the bits of one number").
+-- Sets of transactions, held as the bits of one number (docs/RULES.md, 6 Closing: "sets of transactions are held as the bits of one number").
 use Prim.Native.Nat.{ℕ, zero, suc, _/_, _%_, _^_}
 use mathlib.Core.Bool.{Bool, cond}
 use lib.Bits.{bitOr}

@@ -5,50 +5,32 @@ use mathlib.Core.Path.{_≡_, refl, sym, ap, _∙_}
 use mathlib.Core.List.{List}
 use lib.ListN.{length, take}
 use Rattle.terms.specs.Limits.{edition, mostSagas, mostSteps, mostTransactions, mostObjects, mostDependencies}
-use Rattle.terms.specs.declared.Refusal.{Refusal}
 use Rattle.terms.specs.declared.Refusal.the-variants.{BadEdition, BadCount}
-use Rattle.number.specs.Number.{numberAt}
-use Rattle.number.specs.declared.Field.{Field}
 use Rattle.number.specs.declared.Field.the-variants.{Value}
-use Rattle.number.proofs.Beginnings.{number-local, number-extends}
+use Rattle.number.proofs.Beginnings.{Agrees, number-local, number-extends, within-same}
+use Rattle.number.proofs.Spelling.{no-value}
+use Rattle.number.proofs.FieldLaws.{within-next}
 use Rattle.tables.specs.declared.Circles.{Circles}
 use Rattle.tables.specs.declared.Tables.{Tables}
-use Rattle.tables.specs.declared.Counted.the-variants.{Within}
 use Rattle.tables.specs.declared.SagasRead.{SagasRead}
 use Rattle.tables.specs.declared.TablesAnswer.the-variants.{Read}
 use Rattle.tables.specs.declared.TablesRead.{TablesRead}
-use Rattle.tables.specs.Reading.{emptyTables, placedField, fieldAt, heldTo, fieldWithin, withSaga, sagasFrom, withEntry, dependenciesFrom, withCounts, unlessStuck, restFrom, tablesBy}
-use Rattle.tables.proofs.FieldLaws.{no-within, field-value, within-range}
-use Rattle.tables.proofs.ReadingLaws.{sagas-more, entry4, entries-more, rest4, all4}
-use Rattle.tables.proofs.WayLaws.{no-read, field-next, within-next, sagas-next, by-stuck, by-saga, by-entry, by-rest, by-tables}
-
--- u has each number that s has before the place o
-abbrev pub Agrees : ℕ → List ℕ → List ℕ → ℕ → Type 0
-Agrees cap s u o = (at v next : ℕ) → numberAt cap s at ≡ Value v next → next ≤ o → numberAt cap u at ≡ Value v next
+use Rattle.tables.specs.Reading.{emptyTables, withSaga, sagasFrom, withEntry, dependenciesFrom, withCounts, unlessCircle, restFrom, tablesBy}
+use Rattle.tables.proofs.ReadingLaws.{sagas-more, entries-more, rest4, all4}
+use Rattle.tables.proofs.WayLaws.{no-read, sagas-next, by-circle, by-saga, entry-inside, by-entry, by-rest, by-tables}
 
 module _ (cap : ℕ) (s u : List ℕ) (o : ℕ) (same : Agrees cap s u o) where
-  pub field-same : (at v next : ℕ) → fieldAt cap s at ≡ Within v next → next ≤ o → fieldAt cap u at ≡ Within v next
-  unfolding fieldAt
-  field-same at v next e h = ap (λ (f : Field). placedField f at) (same at v next (field-value cap s at v next e) h)
-
-  within-same : (at low high : ℕ) (r : Refusal) (v next : ℕ) → fieldWithin cap s at low high r ≡ Within v next → next ≤ o
-      → fieldWithin cap u at low high r ≡ Within v next
-  unfolding fieldWithin fieldAt
-  within-same at low high r v next e h =
-      let q = within-range cap s at low high r v next e .2 in
-      ap (λ (f : Field). heldTo at low high r (placedField f at)) (same at v next q h ∙ sym q) ∙ e
-
-  sagas-same : (k at sum : ℕ) (t : Tables) (v p : ℕ) → at ≤ length s → p ≤ o → sagasFrom cap s k at sum t .answer ≡ Within v p
+  sagas-same : (k at sum : ℕ) (t : Tables) (v p : ℕ) → at ≤ length s → p ≤ o → sagasFrom cap s k at sum t .answer ≡ Value v p
       → sagasFrom cap u k at sum t ≡ sagasFrom cap s k at sum t
   unfolding sagasFrom
   sagas-same zero at sum t v p b h e = refl
   sagas-same (suc k) at sum t v p b h e =
-      by-saga cap s k at sum t (λ (r : SagasRead). r .answer ≡ Within v p → sagasFrom cap u (suc k) at sum t ≡ r) b
-      (λ r q f. no-within)
+      by-saga cap s k at sum t (λ (r : SagasRead). r .answer ≡ Value v p → sagasFrom cap u (suc k) at sum t ≡ r) b
+      (λ r q f. no-value)
       (λ n next f l g.
       let w = within-next cap s at 1 mostSteps BadCount n next f .1 in
       let z = sagas-next cap s k next (sum + 2 * n) (withSaga t n) v p w g in
-      sagas-more cap u at sum t (suc k) k refl n next (within-same at 1 mostSteps BadCount n next f (omega (arith, z .0))) (t .sagas) refl l
+      sagas-more cap u at sum t (suc k) k refl n next (within-same cap s u o same at 1 mostSteps BadCount n next f (omega (arith, z .0))) (t .sagas) refl l
       ∙ sagas-same k next (sum + 2 * n) (withSaga t n) v p w h g)
       e
 
@@ -63,18 +45,12 @@ module _ (cap : ℕ) (s u : List ℕ) (o : ℕ) (same : Agrees cap s u o) where
     entries-same n (suc k) at t b =
         by-entry cap s n k at t (Same at (dependenciesFrom cap u n (suc k) at t)) b
         (λ r p f. no-read)
-        (λ d b kind y z next f₁ f₂ f₃ h e.
-        let l₁ = field-next cap s at d y f₁ in
-        let l₂ = field-next cap s y b z f₂ in
-        let l₃ = field-next cap s z kind next f₃ in
-        let i = entries-same n k next (withEntry t d b kind) (l₃ .1) e in
-        let g₁ = field-same at d y f₁ (omega (arith, i .0)) in
-        let g₂ = field-same y b z f₂ (omega (arith, i .0)) in
-        let g₃ = field-same z kind next f₃ (omega (arith, i .0)) in
-        let all = entry4 cap u at d y g₁ b z g₂ kind next g₃ in (
-          omega (arith, i .0),
+        (λ d base kind next f l h e.
+        let i = entries-same n k next (withEntry t d base kind) l e in
+        let j = entry-inside cap s u o same at d base kind next b f in (
+          omega (arith, i .0, j .later),
           i .1,
-          entries-more cap u n at t (suc k) k refl d b kind next (sym all) (t .declared) _ refl refl h ∙ i .2,
+          entries-more cap u n at t (suc k) k refl d base kind next (j .cut (omega (arith, i .0)) ∙ f) (t .declared) _ refl refl h ∙ i .2,
         ))
 
     rest-same : (circles : Circles) (at sum : ℕ) (t : Tables) → at ≤ length s → Same at (restFrom circles cap u at sum t) (restFrom circles cap s at sum t)
@@ -82,18 +58,18 @@ module _ (cap : ℕ) (s u : List ℕ) (o : ℕ) (same : Agrees cap s u o) where
         by-rest cap s circles at sum t (Same at (restFrom circles cap u at sum t)) b
         (λ r p f. no-read)
         (λ p m k y z w f₁ f₂ f₃.
-        by-stuck circles z _ (Same at (restFrom circles cap u at sum t)) (λ f. no-read)
+        by-circle circles z _ (Same at (restFrom circles cap u at sum t)) (λ f. no-read)
         (λ kept e.
         let l₁ = within-next cap s at 0 (mostTransactions - sum) BadCount p y f₁ in
         let l₂ = within-next cap s y 0 mostObjects BadCount m z f₂ in
         let l₃ = within-next cap s z 0 mostDependencies BadCount k w f₃ in
         let i = entries-same (sum + p) k w (withCounts t p m) (l₃ .1) e in
-        let g₁ = within-same at 0 (mostTransactions - sum) BadCount p y f₁ (omega (arith, i .0)) in
-        let g₂ = within-same y 0 mostObjects BadCount m z f₂ (omega (arith, i .0)) in
-        let g₃ = within-same z 0 mostDependencies BadCount k w f₃ (omega (arith, i .0)) in (
+        let g₁ = within-same cap s u o same at 0 (mostTransactions - sum) BadCount p y f₁ (omega (arith, i .0)) in
+        let g₂ = within-same cap s u o same y 0 mostObjects BadCount m z f₂ (omega (arith, i .0)) in
+        let g₃ = within-same cap s u o same z 0 mostDependencies BadCount k w f₃ (omega (arith, i .0)) in (
           omega (arith, i .0),
           i .1,
-          sym (rest4 circles cap u at sum t p y g₁ m z g₂ k w g₃) ∙ ap (unlessStuck circles z) (i .2) ∙ kept,
+          sym (rest4 circles cap u at sum t p y g₁ m z g₂ k w g₃) ∙ ap (unlessCircle circles z) (i .2) ∙ kept,
         )))
 
     tables-same : (circles : Circles) → Same 0 (tablesBy circles cap u) (tablesBy circles cap s)
@@ -105,8 +81,8 @@ module _ (cap : ℕ) (s u : List ℕ) (o : ℕ) (same : Agrees cap s u o) where
         let l₂ = within-next cap s y 0 mostSagas BadCount g z f₂ in
         let l₃ = sagas-next cap s g z 0 emptyTables sum w (l₂ .1) f₃ in
         let i = rest-same circles w sum (sagasFrom cap s g z 0 emptyTables .tables) (l₃ .1) e in
-        let g₁ = within-same 0 edition edition BadEdition v y f₁ (omega (arith, i .0)) in
-        let g₂ = within-same y 0 mostSagas BadCount g z f₂ (omega (arith, i .0)) in
+        let g₁ = within-same cap s u o same 0 edition edition BadEdition v y f₁ (omega (arith, i .0)) in
+        let g₂ = within-same cap s u o same y 0 mostSagas BadCount g z f₂ (omega (arith, i .0)) in
         let g₃ = sagas-same g z 0 emptyTables sum w (l₂ .1) (omega (arith, i .0)) f₃ in (
           omega arith,
           i .1,

@@ -19,7 +19,7 @@ use Rattle.sets.proofs.RowLaws.{Holds, inRow}
 use Rattle.sets.proofs.ReachLaws.{leads-same, among-small, among-on, computed-leads}
 use Rattle.sets.specs.Reach.{Leads, among, leadsTo}
 use Rattle.tables.specs.Accepted.{Well}
-use Rattle.tables.specs.Circles.{isBeginKind, waitsBy, beginLink, stuck}
+use Rattle.tables.specs.Circles.{isBeginKind, waitsBy, beginLink, hasCircle}
 use Rattle.tables.specs.Dependencies.{dependencyAt, kindNumber}
 use Rattle.tables.specs.Sorts.{numberOfAll}
 use Rattle.tables.proofs.DependencyLaws.{on-allowed}
@@ -127,8 +127,8 @@ module _ (tables : Tables) where
       go {b} (Leads.last e) = (among-small mostTransactions (beginLink tables) t b e .0, b, among-on mostTransactions (beginLink tables) t b e)
       go (Leads.step {b = c} e w) = (among-small mostTransactions (beginLink tables) t c e .0, c, among-on mostTransactions (beginLink tables) t c e)
 
-  pub back-stuck : anyBelow mostTransactions back ≡ stuck tables
-  unfolding stuck
+  pub back-stuck : anyBelow mostTransactions back ≡ hasCircle tables
+  unfolding hasCircle
   back-stuck =
       together (anyBelow mostTransactions back) (anyBelow n (λ i. back (dependencyAt tables i .dependent)))
       (λ h.
@@ -145,7 +145,7 @@ module _ (tables : Tables) where
 
 -- some set has its own transaction
 pub own-in : (tables : Tables) (links rows : List ℕ) → Holds links (beginLink tables) → Holds rows (leadsTo mostTransactions (inRow links))
-    → anyBelow mostTransactions (λ t. inRow rows t t) ≡ stuck tables
+    → anyBelow mostTransactions (λ t. inRow rows t t) ≡ hasCircle tables
 own-in tables links rows g h =
     any-same mostTransactions (λ t. inRow rows t t) (λ t. leadsTo mostTransactions (beginLink tables) t t)
     (λ t l. h t t l l ∙ leads-same mostTransactions (inRow links) (beginLink tables) g t t)
@@ -161,6 +161,6 @@ linked-small tables w d b h =
     (omega (arith, a .dependent-known, e .1, w .fits), omega (arith, a .base-known, e .2, w .fits))
 
 -- where nothing is declared nothing leads back
-pub none-stuck : (tables : Tables) → tables .declared ≡ 0 → false ≡ stuck tables
-unfolding stuck
-none-stuck tables e = search-end _ (min (tables .declared) mostDependencies) 0 (any-none _) (omega arith)
+pub none-circle : (tables : Tables) → tables .declared ≡ 0 → false ≡ hasCircle tables
+unfolding hasCircle
+none-circle tables e = search-end _ (min (tables .declared) mostDependencies) 0 (any-none _) (omega arith)

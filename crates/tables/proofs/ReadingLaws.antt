@@ -3,41 +3,27 @@ use Prim.Native.Nat.{ℕ, suc, _+_, _-_, _*_, _≤_, _<_}
 use mathlib.Core.Path.{_≡_, refl, sym, ap, _∙_}
 use mathlib.Core.Bool.{Bool, true, false}
 use mathlib.Core.List.{List}
-use lib.ListN.{set}
+use lib.ListN.{getD, set}
 use borrow.Author.Tests.{lt-ltb, le-ltb}
 use Rattle.terms.specs.Limits.{edition, mostSagas, mostSteps, mostTransactions, mostObjects, mostDependencies}
 use Rattle.terms.specs.declared.Refusal.{Refusal}
 use Rattle.terms.specs.declared.Refusal.the-variants.{BadEdition, BadCount, BadDependency, NeverMoves}
+use Rattle.number.specs.Number.{numberWithin, rowAt}
+use Rattle.number.specs.declared.Row.{Row}
 use Rattle.tables.specs.declared.Circles.{Circles}
 use Rattle.tables.specs.declared.Circles.the-variants.{Forbidden, Permitted}
 use Rattle.tables.specs.declared.Tables.{Tables}
 use Rattle.tables.specs.declared.Kind.{Kind}
-use Rattle.tables.specs.declared.Counted.{Counted}
-use Rattle.tables.specs.declared.Counted.the-variants.{Within, Stop}
+use Rattle.number.specs.declared.Field.{Field}
+use Rattle.number.specs.declared.Field.the-variants.{Value, Fault}
 use Rattle.tables.specs.declared.SagasRead.{SagasRead}
 use Rattle.tables.specs.declared.Entry.{Entry}
 use Rattle.tables.specs.declared.Entry.the-variants.{Declares, Stops}
 use Rattle.tables.specs.declared.TablesAnswer.the-variants.{Read, Refused}
 use Rattle.tables.specs.declared.TablesRead.{TablesRead}
-use Rattle.tables.specs.Circles.{stuck}
+use Rattle.tables.specs.Circles.{hasCircle}
 use Rattle.tables.specs.Dependencies.{kindOf, entryHolds}
-use Rattle.tables.specs.Reading.{
-  emptyTables,
-  fieldAt,
-  fieldWithin,
-  sagasStopped,
-  sagasFrom,
-  refused,
-  stoppedEntry,
-  entryAt,
-  refusedEntry,
-  refusedField,
-  dependenciesFrom,
-  withCounts,
-  unlessStuck,
-  restFrom,
-  tablesBy,
-}
+use Rattle.tables.specs.Reading.{emptyTables, sagasStopped, sagasFrom, refused, entryAt, refusedEntry, refusedField, dependenciesFrom, withCounts, unlessCircle, restFrom, tablesBy}
 
 -- ---- the sagas
 
@@ -51,16 +37,16 @@ unfolding emptyTables
 sagas-none = refl
 
 module _ (cap : ℕ) (s : List ℕ) (at sum : ℕ) (t : Tables) where
-  pub sagas-end : (k : ℕ) → k ≡ 0 → sagasFrom cap s k at sum t ≡ record { answer = Within sum at; tables = t }
+  pub sagas-end : (k : ℕ) → k ≡ 0 → sagasFrom cap s k at sum t ≡ record { answer = Value sum at; tables = t }
   unfolding sagasFrom
   sagas-end k e = rw e
 
   module _ (k j : ℕ) (e : k ≡ suc j) where
-    pub sagas-stop : (r : Refusal) (p : ℕ) → fieldWithin cap s at 1 mostSteps BadCount ≡ Stop r p → sagasFrom cap s k at sum t ≡ sagasStopped r p
+    pub sagas-stop : (r : Refusal) (p : ℕ) → numberWithin cap s at 1 mostSteps BadCount ≡ Fault r p → sagasFrom cap s k at sum t ≡ sagasStopped r p
     unfolding sagasFrom
     sagas-stop r p f = rw (e, f)
 
-    module _ (n next : ℕ) (f : fieldWithin cap s at 1 mostSteps BadCount ≡ Within n next) where
+    module _ (n next : ℕ) (f : numberWithin cap s at 1 mostSteps BadCount ≡ Value n next) where
       pub sagas-large : mostTransactions < sum + 2 * n → sagasFrom cap s k at sum t ≡ sagasStopped BadCount at
       unfolding sagasFrom
       sagas-large h = rw (e, f, lt-ltb mostTransactions (sum + 2 * n) h)
@@ -73,24 +59,15 @@ module _ (cap : ℕ) (s : List ℕ) (at sum : ℕ) (t : Tables) where
 
 -- ---- an entry's three fields
 
-module _ (cap : ℕ) (s : List ℕ) (at : ℕ) where
-  pub entry1 : (c : Counted) (r : Refusal) (p : ℕ) → c ≡ fieldAt cap s at → c ≡ Stop r p → stoppedEntry c ≡ entryAt cap s at
-  unfolding entryAt stoppedEntry
-  entry1 c r p e f = rw (← e, f)
+module _ (cap : ℕ) (s : List ℕ) (at : ℕ) (row : Row) (read : row ≡ rowAt cap s 3 at) where
+  pub entry-stops : (r : Refusal) (p : ℕ) → row .end ≡ Fault r p → Stops r p ≡ entryAt cap s at
+  unfolding entryAt
+  entry-stops r p e = rw (← read, e)
 
-  module _ (d x : ℕ) (first : fieldAt cap s at ≡ Within d x) where
-    pub entry2 : (c : Counted) (r : Refusal) (p : ℕ) → c ≡ fieldAt cap s x → c ≡ Stop r p → stoppedEntry c ≡ entryAt cap s at
-    unfolding entryAt stoppedEntry
-    entry2 c r p e f = rw (first, ← e, f)
-
-    module _ (b y : ℕ) (second : fieldAt cap s x ≡ Within b y) where
-      pub entry3 : (c : Counted) (r : Refusal) (p : ℕ) → c ≡ fieldAt cap s y → c ≡ Stop r p → stoppedEntry c ≡ entryAt cap s at
-      unfolding entryAt stoppedEntry
-      entry3 c r p e f = rw (first, second, ← e, f)
-
-      pub entry4 : (k next : ℕ) → fieldAt cap s y ≡ Within k next → Declares d b k next ≡ entryAt cap s at
-      unfolding entryAt
-      entry4 k next third = rw (first, second, third)
+  pub entry-declares : (n next : ℕ) → row .end ≡ Value n next
+      → Declares (getD (row .fields) 0 0) (getD (row .fields) 1 0) (getD (row .fields) 2 0) next ≡ entryAt cap s at
+  unfolding entryAt
+  entry-declares n next e = rw (← read, e)
 
 -- ---- the dependencies
 
@@ -130,65 +107,65 @@ module _ (cap : ℕ) (s : List ℕ) (n at : ℕ) (t : Tables) where
 -- ---- tables that were read, judged as a whole
 
 module _ (circles : Circles) (at : ℕ) (read : TablesRead) where
-  pub stuck-old : circles ≡ Permitted → read ≡ unlessStuck circles at read
-  unfolding unlessStuck
-  stuck-old e = rw e
+  pub circle-permitted : circles ≡ Permitted → read ≡ unlessCircle circles at read
+  unfolding unlessCircle
+  circle-permitted e = rw e
 
   module _ (e : circles ≡ Forbidden) where
-    pub stuck-refused : (r : Refusal) (p : ℕ) → read .answer ≡ Refused r p → read ≡ unlessStuck circles at read
-    unfolding unlessStuck
-    stuck-refused r p a = rw (e, a)
+    pub circle-refused : (r : Refusal) (p : ℕ) → read .answer ≡ Refused r p → read ≡ unlessCircle circles at read
+    unfolding unlessCircle
+    circle-refused r p a = rw (e, a)
 
     -- b is what the test of their entries said
-    module _ (x : ℕ) (a : read .answer ≡ Read x) {b : Bool} (told : b ≡ stuck (read .tables)) where
-      pub stuck-yes : b ≡ true → refused NeverMoves at ≡ unlessStuck circles at read
-      unfolding unlessStuck
-      stuck-yes h = rw (e, a, sym told ∙ h)
+    module _ (x : ℕ) (a : read .answer ≡ Read x) {b : Bool} (told : b ≡ hasCircle (read .tables)) where
+      pub circle-yes : b ≡ true → refused NeverMoves at ≡ unlessCircle circles at read
+      unfolding unlessCircle
+      circle-yes h = rw (e, a, sym told ∙ h)
 
-      pub stuck-no : b ≡ false → read ≡ unlessStuck circles at read
-      unfolding unlessStuck
-      stuck-no h = rw (e, a, sym told ∙ h)
+      pub circle-no : b ≡ false → read ≡ unlessCircle circles at read
+      unfolding unlessCircle
+      circle-no h = rw (e, a, sym told ∙ h)
 
 -- ---- the whole: one law for each place where the chain can stop
 
 module _ (circles : Circles) (cap : ℕ) (s : List ℕ) (at sum : ℕ) (t : Tables) where
-  pub rest1 : (c : Counted) (r : Refusal) (p : ℕ) → c ≡ fieldWithin cap s at 0 (mostTransactions - sum) BadCount → c ≡ Stop r p
+  pub rest1 : (c : Field) (r : Refusal) (p : ℕ) → c ≡ numberWithin cap s at 0 (mostTransactions - sum) BadCount → c ≡ Fault r p
       → refusedField c ≡ restFrom circles cap s at sum t
   unfolding restFrom refusedField
   rest1 c r p e f = rw (← e, f)
 
-  module _ (v x : ℕ) (a : fieldWithin cap s at 0 (mostTransactions - sum) BadCount ≡ Within v x) where
-    pub rest2 : (c : Counted) (r : Refusal) (p : ℕ) → c ≡ fieldWithin cap s x 0 mostObjects BadCount → c ≡ Stop r p
+  module _ (v x : ℕ) (a : numberWithin cap s at 0 (mostTransactions - sum) BadCount ≡ Value v x) where
+    pub rest2 : (c : Field) (r : Refusal) (p : ℕ) → c ≡ numberWithin cap s x 0 mostObjects BadCount → c ≡ Fault r p
         → refusedField c ≡ restFrom circles cap s at sum t
     unfolding restFrom refusedField
     rest2 c r p e f = rw (a, ← e, f)
 
-    module _ (m y : ℕ) (b : fieldWithin cap s x 0 mostObjects BadCount ≡ Within m y) where
-      pub rest3 : (c : Counted) (r : Refusal) (p : ℕ) → c ≡ fieldWithin cap s y 0 mostDependencies BadCount → c ≡ Stop r p
+    module _ (m y : ℕ) (b : numberWithin cap s x 0 mostObjects BadCount ≡ Value m y) where
+      pub rest3 : (c : Field) (r : Refusal) (p : ℕ) → c ≡ numberWithin cap s y 0 mostDependencies BadCount → c ≡ Fault r p
           → refusedField c ≡ restFrom circles cap s at sum t
       unfolding restFrom refusedField
       rest3 c r p e f = rw (a, b, ← e, f)
 
-      pub rest4 : (k z : ℕ) → fieldWithin cap s y 0 mostDependencies BadCount ≡ Within k z
-          → unlessStuck circles y (dependenciesFrom cap s (sum + v) k z (withCounts t v m)) ≡ restFrom circles cap s at sum t
+      pub rest4 : (k z : ℕ) → numberWithin cap s y 0 mostDependencies BadCount ≡ Value k z
+          → unlessCircle circles y (dependenciesFrom cap s (sum + v) k z (withCounts t v m)) ≡ restFrom circles cap s at sum t
       unfolding restFrom
       rest4 k z e = rw (a, b, e)
 
 module _ (circles : Circles) (cap : ℕ) (s : List ℕ) where
-  pub all1 : (c : Counted) (r : Refusal) (p : ℕ) → c ≡ fieldWithin cap s 0 edition edition BadEdition → c ≡ Stop r p → refusedField c ≡ tablesBy circles cap s
+  pub all1 : (c : Field) (r : Refusal) (p : ℕ) → c ≡ numberWithin cap s 0 edition edition BadEdition → c ≡ Fault r p → refusedField c ≡ tablesBy circles cap s
   unfolding tablesBy refusedField
   all1 c r p e f = rw (← e, f)
 
-  module _ (v x : ℕ) (a : fieldWithin cap s 0 edition edition BadEdition ≡ Within v x) where
-    pub all2 : (c : Counted) (r : Refusal) (p : ℕ) → c ≡ fieldWithin cap s x 0 mostSagas BadCount → c ≡ Stop r p → refusedField c ≡ tablesBy circles cap s
+  module _ (v x : ℕ) (a : numberWithin cap s 0 edition edition BadEdition ≡ Value v x) where
+    pub all2 : (c : Field) (r : Refusal) (p : ℕ) → c ≡ numberWithin cap s x 0 mostSagas BadCount → c ≡ Fault r p → refusedField c ≡ tablesBy circles cap s
     unfolding tablesBy refusedField
     all2 c r p e f = rw (a, ← e, f)
 
-    module _ (g y : ℕ) (b : fieldWithin cap s x 0 mostSagas BadCount ≡ Within g y) (read : SagasRead) (q : read ≡ sagasFrom cap s g y 0 emptyTables) where
-      pub all3 : (r : Refusal) (p : ℕ) → read .answer ≡ Stop r p → refusedField (read .answer) ≡ tablesBy circles cap s
+    module _ (g y : ℕ) (b : numberWithin cap s x 0 mostSagas BadCount ≡ Value g y) (read : SagasRead) (q : read ≡ sagasFrom cap s g y 0 emptyTables) where
+      pub all3 : (r : Refusal) (p : ℕ) → read .answer ≡ Fault r p → refusedField (read .answer) ≡ tablesBy circles cap s
       unfolding tablesBy refusedField
       all3 r p f = rw (a, b, ← q, f)
 
-      pub all4 : (sum z : ℕ) → read .answer ≡ Within sum z → restFrom circles cap s z sum (read .tables) ≡ tablesBy circles cap s
+      pub all4 : (sum z : ℕ) → read .answer ≡ Value sum z → restFrom circles cap s z sum (read .tables) ≡ tablesBy circles cap s
       unfolding tablesBy
       all4 sum z f = rw (a, b, ← q, f)

@@ -8,6 +8,7 @@ use lib.ListN.{length}
 use Rattle.terms.specs.Limits.{mostSagas, mostObjects, mostDependencies}
 use Rattle.terms.specs.declared.Refusal.{Refusal}
 use Rattle.terms.specs.declared.Refusal.the-variants.{BadCount, NeverMoves}
+use Rattle.number.proofs.FieldLaws.{within-next}
 use Rattle.tables.specs.declared.Circles.{Circles}
 use Rattle.tables.specs.declared.Circles.the-variants.{Forbidden}
 use Rattle.tables.specs.declared.Tables.{Tables}
@@ -15,7 +16,7 @@ use Rattle.tables.specs.declared.TablesAnswer.the-variants.{Refused}
 use Rattle.tables.specs.declared.TablesRead.{TablesRead}
 use Rattle.tables.specs.Reading.{emptyTables, sagasFrom, refused, withEntry, dependenciesFrom, withCounts, tablesBy}
 use Rattle.tables.proofs.FaultLaws.{Faulty}
-use Rattle.tables.proofs.WayLaws.{field-next, within-next, sagas-next, by-stuck, by-entry, by-rest, by-tables}
+use Rattle.tables.proofs.WayLaws.{sagas-next, by-circle, by-entry, by-rest, by-tables}
 
 module _ (circles : Circles) (cap : ℕ) (s : List ℕ) (r : Refusal) (p : ℕ) where
   abbrev Blank : TablesRead → Type 0
@@ -24,15 +25,15 @@ module _ (circles : Circles) (cap : ℕ) (s : List ℕ) (r : Refusal) (p : ℕ) 
   blank-stop : (q : Refusal) (at : ℕ) → Faulty s q at → Blank (refused q at)
   blank-stop q at f e = let a : q ≡ r = cc in let b : at ≡ p = cc in (refl, inl (rw (← a, ← b) f))
 
-  blank-stuck : (at : ℕ) → at ≤ length s → circles ≡ Forbidden → Blank (refused NeverMoves at)
-  blank-stuck at l f e = let a : NeverMoves ≡ r = cc in let b : at ≡ p = cc in (refl, inr (f, sym a, omega arith))
+  blank-circle : (at : ℕ) → at ≤ length s → circles ≡ Forbidden → Blank (refused NeverMoves at)
+  blank-circle at l f e = let a : NeverMoves ≡ r = cc in let b : at ≡ p = cc in (refl, inr (f, sym a, omega arith))
 
   blank-entries : (n k at : ℕ) (t : Tables) → at ≤ length s → Blank (dependenciesFrom cap s n k at t)
   unfolding dependenciesFrom
   blank-entries n zero at t b = λ e. let z : _≡_ {A = ℕ} 0 1 = cc in absurd (omega arith)
   blank-entries n (suc k) at t b =
       by-entry cap s n k at t Blank b blank-stop
-      (λ d b kind x y next f₁ f₂ f₃ h. blank-entries n k next (withEntry t d b kind) (field-next cap s y kind next f₃ .1))
+      (λ d b kind next f l h. blank-entries n k next (withEntry t d b kind) l)
 
   blank : Blank (tablesBy circles cap s)
   blank =
@@ -41,7 +42,7 @@ module _ (circles : Circles) (cap : ℕ) (s : List ℕ) (r : Refusal) (p : ℕ) 
       let t = sagasFrom cap s g y 0 emptyTables .tables in
       by-rest cap s circles z sum t Blank (sagas-next cap s g y 0 emptyTables sum z (within-next cap s x 0 mostSagas BadCount g y f₂ .1) f₃ .1) blank-stop
       (λ q m k u v w h₁ h₂ h₃.
-      by-stuck circles v _ Blank (blank-stuck v (within-next cap s u 0 mostObjects BadCount m v h₂ .1))
+      by-circle circles v _ Blank (blank-circle v (within-next cap s u 0 mostObjects BadCount m v h₂ .1))
       (λ kept. blank-entries (sum + q) k w (withCounts t q m) (within-next cap s v 0 mostDependencies BadCount k w h₃ .1))))
 
   pub refused-empty : tablesBy circles cap s .answer ≡ Refused r p → tablesBy circles cap s .tables ≡ emptyTables

@@ -120,3 +120,7 @@ module _ (tables : Tables) (full : length (tables .steps) ≡ mostSagas) (i : �
 pub mem-undos : (tables : Tables) (t : ℕ) → mem (undosOf tables) t ≡ (ltb t mostTransactions && isUndo (sortOf tables t))
 unfolding undosOf
 mem-undos tables t = mem-set-of mostTransactions (λ k. isUndo (sortOf tables k)) t (omega arith)
+
+-- past the last saga stands what all sagas own
+pub owned-past : (tables : Tables) → length (tables .steps) ≡ mostSagas → firstOf tables mostSagas ≡ ownedBy (sagasOf tables)
+owned-past tables e = ap ownedBy (take-all mostSagas (sagasOf tables) (simp length-take (omega arith)))

@@ -1,69 +1,48 @@
 -- The ways that reading the tables can take, each with two ends: it stops at a fault, or it goes on with what was read.
 -- What is shown of both ends is shown of the whole.
-use Prim.Native.Nat.{ℕ, zero, suc, _+_, _-_, _*_, _≤_, _<_}
+use Prim.Native.Nat.{ℕ, zero, suc, _+_, _-_, _*_, _≤_}
 use native.Mathlib.Omega.{arith}
-use mathlib.Core.Path.{_≡_, refl}
+use mathlib.Core.Path.{_≡_, refl, ap, subst}
 use mathlib.Core.Bool.{true, cond, _&&_}
 use mathlib.Core.List.{List}
-use lib.ListN.{length}
+use lib.ListN.{length, getD}
 use lib.Dec.{ltb}
 use borrow.Author.Tests.{ltb-false}
 use Rattle.laws.proofs.Bools.{bool-cases}
 use Rattle.terms.specs.Limits.{edition, mostSagas, mostSteps, mostTransactions, mostObjects, mostDependencies}
 use Rattle.terms.specs.declared.Refusal.{Refusal}
 use Rattle.terms.specs.declared.Refusal.the-variants.{BadEdition, BadCount, BadDependency, NeverMoves}
-use Rattle.number.proofs.Spelling.{number-next}
+use Rattle.number.proofs.Spelling.{no-value}
+use Rattle.number.specs.Number.{numberWithin, noFields, rowAt}
+use Rattle.number.proofs.FieldLaws.{by-field, within-next}
+use Rattle.number.proofs.Beginnings.{Agrees}
+use Rattle.number.proofs.Passing.{Passes}
+use Rattle.number.proofs.RowLaws.{RowInside, row-inside, row-fault}
 use Rattle.tables.specs.declared.Circles.{Circles}
 use Rattle.tables.specs.declared.Circles.the-variants.{Forbidden, Permitted}
 use Rattle.tables.specs.declared.Tables.{Tables}
-use Rattle.tables.specs.declared.Counted.the-variants.{Within, Stop}
+use Rattle.number.specs.declared.Field.the-variants.{Value, Fault}
 use Rattle.tables.specs.declared.SagasRead.{SagasRead}
 use Rattle.tables.specs.declared.Entry.{Entry}
 use Rattle.tables.specs.declared.Entry.the-variants.{Declares, Stops}
 use Rattle.tables.specs.declared.TablesAnswer.the-variants.{Read, Refused}
 use Rattle.tables.specs.declared.TablesRead.{TablesRead}
-use Rattle.tables.specs.Circles.{stuck}
+use Rattle.tables.specs.Circles.{hasCircle}
 use Rattle.tables.specs.Dependencies.{entryHolds}
-use Rattle.tables.specs.Reading.{
-  emptyTables,
-  andThen,
-  fieldAt,
-  fieldWithin,
-  withSaga,
-  sagasStopped,
-  sagasFrom,
-  refused,
-  entryAt,
-  withEntry,
-  thenEntry,
-  dependenciesFrom,
-  withCounts,
-  isRead,
-  unlessStuck,
-  restFrom,
-  tablesBy,
-}
-use Rattle.tables.proofs.FieldLaws.{by-field, no-within, field-value, within-range}
-use Rattle.tables.proofs.FaultLaws.{Faulty, field-fault, within-fault}
+use Rattle.tables.specs.Reading.{emptyTables, withSaga, sagasStopped, sagasFrom, refused, entryBy, entryAt, withEntry, thenEntry, dependenciesFrom, withCounts, isRead, unlessCircle, restFrom, tablesBy}
+use Rattle.tables.proofs.FaultLaws.{Faulty, within-fault}
 
 pub no-read : {A : Type 0} {r : Refusal} {p at : ℕ} → Refused r p ≡ Read at → A
 no-read e = let z : _≡_ {A = ℕ} 0 1 = cc in absurd (omega arith)
 
--- tables that were read stay as they are, or are refused at this place, which an old book's are not
-pub by-stuck : (circles : Circles) (at : ℕ) (r : TablesRead) (Q : TablesRead → Type 0) → (circles ≡ Forbidden → Q (refused NeverMoves at)) → (unlessStuck circles at r ≡ r → Q r)
-    → Q (unlessStuck circles at r)
-unfolding unlessStuck
-by-stuck Permitted at r Q stop more = more refl
-by-stuck Forbidden at r Q stop more = bool-cases (isRead (r .answer) && stuck (r .tables)) (λ h. rw h (stop refl)) (λ h. rw h (more (rw h)))
+-- tables that were read stay as they are, or are refused at this place, where circles are forbidden
+pub by-circle : (circles : Circles) (at : ℕ) (r : TablesRead) (Q : TablesRead → Type 0) → (circles ≡ Forbidden → Q (refused NeverMoves at)) → (unlessCircle circles at r ≡ r → Q r)
+    → Q (unlessCircle circles at r)
+unfolding unlessCircle
+by-circle Permitted at r Q stop more = more refl
+by-circle Forbidden at r Q stop more = bool-cases (isRead (r .answer) && hasCircle (r .tables)) (λ h. rw h (stop refl)) (λ h. rw h (more (rw h)))
 
 module _ (cap : ℕ) (s : List ℕ) where
-  -- a field at a place, and the place after it
-  pub field-next : (at v next : ℕ) → fieldAt cap s at ≡ Within v next → (at < next) × (next ≤ length s)
-  field-next at v next f = number-next cap s at v next (field-value cap s at v next f)
-
-  pub within-next : (at low high : ℕ) (r : Refusal) (v next : ℕ) → fieldWithin cap s at low high r ≡ Within v next → (at < next) × (next ≤ length s)
-  within-next at low high r v next f = number-next cap s at v next (within-range cap s at low high r v next f .2)
-
   bad-count : (at : ℕ) → at ≤ length s → Faulty s BadCount at
   bad-count at b = record { inside = b; low = omega arith; high = omega arith }
 
@@ -71,12 +50,12 @@ module _ (cap : ℕ) (s : List ℕ) where
 
   pub by-saga : (k at sum : ℕ) (t : Tables) (Q : SagasRead → Type 0) → at ≤ length s
       → ((r : Refusal) (p : ℕ) → Faulty s r p → Q (sagasStopped r p))
-      → ((n next : ℕ) → fieldWithin cap s at 1 mostSteps BadCount ≡ Within n next → sum + 2 * n ≤ mostTransactions
+      → ((n next : ℕ) → numberWithin cap s at 1 mostSteps BadCount ≡ Value n next → sum + 2 * n ≤ mostTransactions
       → Q (sagasFrom cap s k next (sum + 2 * n) (withSaga t n)))
       → Q (sagasFrom cap s (suc k) at sum t)
   unfolding sagasFrom
   by-saga k at sum t Q b stop more =
-      by-field (fieldWithin cap s at 1 mostSteps BadCount) sagasStopped
+      by-field (numberWithin cap s at 1 mostSteps BadCount) sagasStopped
       (λ n next. cond (ltb mostTransactions (sum + 2 * n)) (sagasStopped BadCount at) (sagasFrom cap s k next (sum + 2 * n) (withSaga t n))) Q
       (λ n next f.
       bool-cases (ltb mostTransactions (sum + 2 * n))
@@ -85,51 +64,70 @@ module _ (cap : ℕ) (s : List ℕ) where
       (λ r p f. stop r p (within-fault cap s at b 1 mostSteps BadCount (bad-count at b) r p f))
 
   -- the sagas end inside the book, or at a fault
-  pub sagas-next : (k at sum : ℕ) (t : Tables) (v p : ℕ) → at ≤ length s → sagasFrom cap s k at sum t .answer ≡ Within v p
+  pub sagas-next : (k at sum : ℕ) (t : Tables) (v p : ℕ) → at ≤ length s → sagasFrom cap s k at sum t .answer ≡ Value v p
       → (at ≤ p) × (p ≤ length s)
   unfolding sagasFrom
   sagas-next zero at sum t v p b e = let q : at ≡ p = cc in (omega arith, omega arith)
   sagas-next (suc k) at sum t v p b e =
-      by-saga k at sum t (λ (r : SagasRead). r .answer ≡ Within v p → (at ≤ p) × (p ≤ length s)) b
-      (λ r q f. no-within)
+      by-saga k at sum t (λ (r : SagasRead). r .answer ≡ Value v p → (at ≤ p) × (p ≤ length s)) b
+      (λ r q f. no-value)
       (λ n next f l g.
-      let w = within-next at 1 mostSteps BadCount n next f in
+      let w = within-next cap s at 1 mostSteps BadCount n next f in
       let i = sagas-next k next (sum + 2 * n) (withSaga t n) v p (w .1) g in (
         omega (arith, w .0, i .0),
         i .1,
       ))
       e
 
-  pub sagas-fault : (k at sum : ℕ) (t : Tables) (r : Refusal) (p : ℕ) → at ≤ length s → sagasFrom cap s k at sum t .answer ≡ Stop r p → Faulty s r p
+  pub sagas-fault : (k at sum : ℕ) (t : Tables) (r : Refusal) (p : ℕ) → at ≤ length s → sagasFrom cap s k at sum t .answer ≡ Fault r p → Faulty s r p
   unfolding sagasFrom
   sagas-fault zero at sum t r p b e = let z : _≡_ {A = ℕ} 0 1 = cc in absurd (omega arith)
   sagas-fault (suc k) at sum t r p b e =
-      by-saga k at sum t (λ (x : SagasRead). x .answer ≡ Stop r p → Faulty s r p) b
+      by-saga k at sum t (λ (x : SagasRead). x .answer ≡ Fault r p → Faulty s r p) b
       (λ x q f g. let a : x ≡ r = cc in let d : q ≡ p = cc in rw (← a, ← d) f)
-      (λ n next f l g. sagas-fault k next (sum + 2 * n) (withSaga t n) r p (within-next at 1 mostSteps BadCount n next f .1) g)
+      (λ n next f l g. sagas-fault k next (sum + 2 * n) (withSaga t n) r p (within-next cap s at 1 mostSteps BadCount n next f .1) g)
       e
 
   -- ---- one entry
 
+  -- the fields of an entry: what stands before its end, and that a book with the same fields has it too
+  pub entry-inside : (u : List ℕ) (o : ℕ) → Agrees cap s u o → (at d b kind next : ℕ) → at ≤ length s → entryAt cap s at ≡ Declares d b kind next
+      → RowInside cap s at next o (entryAt cap u at ≡ entryAt cap s at)
+  unfolding entryAt
+  entry-inside u o agree at d b kind next l e =
+      let row = rowAt cap s 3 at in
+      by-field (row .end) Stops (λ n p. Declares (getD (row .fields) 0 0) (getD (row .fields) 1 0) (getD (row .fields) 2 0) p)
+      (λ (x : Entry). x ≡ Declares d b kind next → RowInside cap s at next o (entryAt cap u at ≡ entryAt cap s at))
+      (λ n p f h.
+      let q : p ≡ next = cc in
+      let i = row-inside cap s u o agree 3 0 at noFields n p l f in
+      record {
+        later = omega (arith, i .later);
+        ends = omega (arith, i .ends);
+        passed = subst (Passes cap s at) q (i .passed);
+        cut = λ z. ap entryBy (i .cut (omega arith));
+      })
+      (λ r p f h. let z : _≡_ {A = ℕ} 0 1 = cc in absurd (omega arith))
+      e
+
   pub by-entry : (n k at : ℕ) (t : Tables) (Q : TablesRead → Type 0) → at ≤ length s
       → ((r : Refusal) (p : ℕ) → Faulty s r p → Q (refused r p))
-      → ((d b kind x y next : ℕ) → fieldAt cap s at ≡ Within d x → fieldAt cap s x ≡ Within b y → fieldAt cap s y ≡ Within kind next
-      → entryHolds t n d b kind ≡ true → Q (dependenciesFrom cap s n k next (withEntry t d b kind)))
+      → ((d b kind next : ℕ) → entryAt cap s at ≡ Declares d b kind next → next ≤ length s → entryHolds t n d b kind ≡ true
+      → Q (dependenciesFrom cap s n k next (withEntry t d b kind)))
       → Q (dependenciesFrom cap s n (suc k) at t)
   unfolding dependenciesFrom entryAt
   by-entry n k at t Q l stop more =
-      by-field (fieldAt cap s at) Stops (λ d x. andThen (fieldAt cap s x) Stops (λ b y. andThen (fieldAt cap s y) Stops (λ kind next. Declares d b kind next))) Goal
-      (λ d x f₁.
-      by-field (fieldAt cap s x) Stops (λ b y. andThen (fieldAt cap s y) Stops (λ kind next. Declares d b kind next)) Goal
-      (λ b y f₂.
-      by-field (fieldAt cap s y) Stops (λ kind next. Declares d b kind next) Goal
-      (λ kind next f₃.
+      let row = rowAt cap s 3 at in
+      let d = getD (row .fields) 0 0 in
+      let b = getD (row .fields) 1 0 in
+      let kind = getD (row .fields) 2 0 in
+      by-field (row .end) Stops (λ n p. Declares d b kind p) (λ (e : Entry). entryBy row ≡ e → Goal e)
+      (λ m next f q.
       bool-cases (entryHolds t n d b kind)
-      (λ h. rw h (more d b kind x y next f₁ f₂ f₃ h))
+      (λ h. rw h (more d b kind next q (row-inside cap s s 0 (λ x v y e z. e) 3 0 at noFields m next l f .ends) h))
       (λ h. rw h (stop BadDependency at (record { inside = l; low = omega arith; high = omega arith }))))
-      (λ r p f. stop r p (field-fault cap s y (field-next x b y f₂ .1) r p f)))
-      (λ r p f. stop r p (field-fault cap s x (field-next at d x f₁ .1) r p f)))
-      (λ r p f. stop r p (field-fault cap s at l r p f))
+      (λ r p f q. let g = row-fault cap s 3 0 at noFields r p l f in stop r p (record { inside = g .0; low = g .1; high = omega (arith, g .2) }))
+      refl
     where
       Goal : Entry → Type 0
       Goal e = Q (thenEntry e at n t (λ d b kind next. dependenciesFrom cap s n k next (withEntry t d b kind)))
@@ -138,19 +136,19 @@ module _ (cap : ℕ) (s : List ℕ) where
 
   pub by-rest : (circles : Circles) (at sum : ℕ) (t : Tables) (Q : TablesRead → Type 0) → at ≤ length s
       → ((r : Refusal) (p : ℕ) → Faulty s r p → Q (refused r p))
-      → ((p m k x y z : ℕ) → fieldWithin cap s at 0 (mostTransactions - sum) BadCount ≡ Within p x
-      → fieldWithin cap s x 0 mostObjects BadCount ≡ Within m y → fieldWithin cap s y 0 mostDependencies BadCount ≡ Within k z
-      → Q (unlessStuck circles y (dependenciesFrom cap s (sum + p) k z (withCounts t p m))))
+      → ((p m k x y z : ℕ) → numberWithin cap s at 0 (mostTransactions - sum) BadCount ≡ Value p x
+      → numberWithin cap s x 0 mostObjects BadCount ≡ Value m y → numberWithin cap s y 0 mostDependencies BadCount ≡ Value k z
+      → Q (unlessCircle circles y (dependenciesFrom cap s (sum + p) k z (withCounts t p m))))
       → Q (restFrom circles cap s at sum t)
   unfolding restFrom
   by-rest circles at sum t Q b stop more =
-      by-field (fieldWithin cap s at 0 (mostTransactions - sum) BadCount) refused _ Q
+      by-field (numberWithin cap s at 0 (mostTransactions - sum) BadCount) refused _ Q
       (λ p x f₁.
-      let u = within-next at 0 (mostTransactions - sum) BadCount p x f₁ .1 in
-      by-field (fieldWithin cap s x 0 mostObjects BadCount) refused _ Q
+      let u = within-next cap s at 0 (mostTransactions - sum) BadCount p x f₁ .1 in
+      by-field (numberWithin cap s x 0 mostObjects BadCount) refused _ Q
       (λ m y f₂.
-      let v = within-next x 0 mostObjects BadCount m y f₂ .1 in
-      by-field (fieldWithin cap s y 0 mostDependencies BadCount) refused _ Q
+      let v = within-next cap s x 0 mostObjects BadCount m y f₂ .1 in
+      by-field (numberWithin cap s y 0 mostDependencies BadCount) refused _ Q
       (λ k z f₃. more p m k x y z f₁ f₂ f₃)
       (λ r q f. stop r q (within-fault cap s y v 0 mostDependencies BadCount (bad-count y v) r q f)))
       (λ r q f. stop r q (within-fault cap s x u 0 mostObjects BadCount (bad-count x u) r q f)))
@@ -160,18 +158,18 @@ module _ (cap : ℕ) (s : List ℕ) where
 
   pub by-tables : (circles : Circles) (Q : TablesRead → Type 0)
       → ((r : Refusal) (p : ℕ) → Faulty s r p → Q (refused r p))
-      → ((e g x y sum z : ℕ) → fieldWithin cap s 0 edition edition BadEdition ≡ Within e x
-      → fieldWithin cap s x 0 mostSagas BadCount ≡ Within g y → sagasFrom cap s g y 0 emptyTables .answer ≡ Within sum z
+      → ((e g x y sum z : ℕ) → numberWithin cap s 0 edition edition BadEdition ≡ Value e x
+      → numberWithin cap s x 0 mostSagas BadCount ≡ Value g y → sagasFrom cap s g y 0 emptyTables .answer ≡ Value sum z
       → Q (restFrom circles cap s z sum (sagasFrom cap s g y 0 emptyTables .tables)))
       → Q (tablesBy circles cap s)
   unfolding tablesBy
   by-tables circles Q stop more =
-      by-field (fieldWithin cap s 0 edition edition BadEdition) refused _ Q
+      by-field (numberWithin cap s 0 edition edition BadEdition) refused _ Q
       (λ e x f₁.
-      let u = within-next 0 edition edition BadEdition e x f₁ .1 in
-      by-field (fieldWithin cap s x 0 mostSagas BadCount) refused _ Q
+      let u = within-next cap s 0 edition edition BadEdition e x f₁ .1 in
+      by-field (numberWithin cap s x 0 mostSagas BadCount) refused _ Q
       (λ g y f₂.
-      let v = within-next x 0 mostSagas BadCount g y f₂ .1 in
+      let v = within-next cap s x 0 mostSagas BadCount g y f₂ .1 in
       by-field (sagasFrom cap s g y 0 emptyTables .answer) refused _ Q
       (λ sum z f₃. more e g x y sum z f₁ f₂ f₃)
       (λ r q f. stop r q (sagas-fault g y 0 emptyTables r q v f)))

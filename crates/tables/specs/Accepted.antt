@@ -9,11 +9,13 @@ use Rattle.terms.specs.Limits.{mostSagas, mostSteps, mostTransactions, mostObje
 use Rattle.terms.specs.declared.Refusal.{Refusal}
 use Rattle.terms.specs.declared.Refusal.the-variants.{NeverMoves}
 use Rattle.sets.specs.Reach.{Leads}
+use Rattle.number.specs.Number.{andThen, numberAt}
 use Rattle.tables.specs.Sorts.{numberOfAll}
 use Rattle.tables.specs.Dependencies.{kindNumber, dependencyAt, allowed, risesFrom}
 use Rattle.tables.specs.Circles.{beginLink}
-use Rattle.tables.specs.Reading.{andThen, fieldAt, tablesBy, tablesOf, oldTablesOf}
+use Rattle.tables.specs.Reading.{tablesBy}
 use Rattle.tables.specs.declared.Circles.{Circles}
+use Rattle.tables.specs.declared.Circles.the-variants.{Forbidden, Permitted}
 use Rattle.tables.specs.declared.Tables.{Tables}
 use Rattle.tables.specs.declared.TablesAnswer.the-variants.{Read, Refused}
 
@@ -31,7 +33,7 @@ pub record Well (t : Tables) : Type 0 where
   pub rising : (i : ℕ) → i + 1 < t .declared
       → risesFrom (dependencyAt t i) (dependencyAt t (i + 1) .dependent) (dependencyAt t (i + 1) .base) (kindNumber (dependencyAt t (i + 1) .kind)) ≡ true
 
--- tables that reading accepts are well formed, an old book's too
+-- tables that reading accepts are well formed, circles permitted or not
 abbrev pub AcceptedWell : Type 0
 AcceptedWell = (circles : Circles) (cap : ℕ) (s : List ℕ) (at : ℕ) → tablesBy circles cap s .answer ≡ Read at → Well (tablesBy circles cap s .tables)
 
@@ -40,7 +42,7 @@ AcceptedWell = (circles : Circles) (cap : ℕ) (s : List ℕ) (at : ℕ) → tab
 -- the place of field n of a book, counted from 0, which is the edition
 unfoldable pub placeOfField : ℕ → List ℕ → ℕ → ℕ
 placeOfField cap s zero = 0
-placeOfField cap s (suc n) = andThen (fieldAt cap s (placeOfField cap s n)) (λ r p. p) (λ v next. next)
+placeOfField cap s (suc n) = andThen (numberAt cap s (placeOfField cap s n)) (λ r p. p) (λ v next. next)
 
 -- the dependency count stands after the edition, the number of sagas, the steps of each, the plain transactions and the objects
 abbrev pub countPlace : ℕ → List ℕ → Tables → ℕ
@@ -51,13 +53,13 @@ abbrev pub GoesRound : Tables → Type 0
 GoesRound tables = (t : ℕ) × Leads (beginLink tables) t t
 
 pub record CirclesRefused (cap : ℕ) (s : List ℕ) : Type 0 where
-  -- "Refuse tables exactly when": where an old book's are accepted, and go round; "place at the dependency count"
-  pub refused : (p : ℕ) → (tablesOf cap s .answer ≡ Refused NeverMoves p)
-      ↔ (((at : ℕ) × (oldTablesOf cap s .answer ≡ Read at)) × (GoesRound (oldTablesOf cap s .tables) × (p ≡ countPlace cap s (oldTablesOf cap s .tables))))
+  -- "Refuse tables exactly when": where they are accepted with circles permitted, and go round; "place at the dependency count"
+  pub refused : (p : ℕ) → (tablesBy Forbidden cap s .answer ≡ Refused NeverMoves p)
+      ↔ (((at : ℕ) × (tablesBy Permitted cap s .answer ≡ Read at)) × (GoesRound (tablesBy Permitted cap s .tables) × (p ≡ countPlace cap s (tablesBy Permitted cap s .tables))))
   -- "judged after the last dependency entry": every other refusal of tables comes first
-  pub others-first : (r : Refusal) (p : ℕ) → oldTablesOf cap s .answer ≡ Refused r p → tablesOf cap s ≡ oldTablesOf cap s
+  pub others-first : (r : Refusal) (p : ℕ) → tablesBy Permitted cap s .answer ≡ Refused r p → tablesBy Forbidden cap s ≡ tablesBy Permitted cap s
   -- what is accepted is read as it was
-  pub accepted : (at : ℕ) → tablesOf cap s .answer ≡ Read at → oldTablesOf cap s ≡ tablesOf cap s
+  pub accepted : (at : ℕ) → tablesBy Forbidden cap s .answer ≡ Read at → tablesBy Permitted cap s ≡ tablesBy Forbidden cap s
 
 abbrev pub NeverMovesRefused : Type 0
 NeverMovesRefused = (cap : ℕ) (s : List ℕ) → CirclesRefused cap s

@@ -1,4 +1,4 @@
--- Declared dependencies (document 01, 'States and who may act'), and when an entry of the book is one.
+-- Declared dependencies (docs/RULES.md, 2 States and who may act), and when an entry of the book is one.
 use Prim.Native.Nat.{ℕ, _-_}
 use mathlib.Core.Bool.{Bool, not, cond, _&&_, _||_}
 use lib.ListN.{getD}
@@ -10,7 +10,7 @@ use Rattle.tables.specs.declared.Sort.{Sort}
 use Rattle.tables.specs.declared.Tables.{Tables}
 use Rattle.tables.specs.Sorts.{sortOf, isSaga, isPlain}
 
--- document 01's number for each kind
+-- the number of each kind
 abbrev pub kindNumber : Kind → ℕ
 kindNumber Commit = 1
 kindNumber Abort = 2

@@ -1,4 +1,4 @@
--- The numbers of transactions (document 01, 'The book'): "A saga whose first number is f owns 2n of them: f is the saga S, f+1 to f+n are
+-- The numbers of transactions (docs/RULES.md, 1 The book): "A saga whose first number is f owns 2n of them: f is the saga S, f+1 to f+n are
 -- steps T1 to Tn, f+n+1 to f+2n-1 are undos C1 to C(n-1). Tn has no undo. Plain ones come last."
 use Prim.Native.Nat.{ℕ, _+_, _*_, _-_}
 use mathlib.Core.Bool.{Bool, true, false, cond}

@@ -1,20 +1,21 @@
 // What a book declares before its events: its sagas, its plain transactions, its objects and the dependencies between transactions.
 use number::Field;
 use number::Number;
+use number::Row;
 use terms::Book;
 use terms::Refusal;
 use terms::Saga;
 ghost use mathlib.Core.Path.{_≡_};
-ghost use Prim.Native.Nat.{ℕ, _*_, _≤_, _<_, min};
+ghost use Prim.Native.Nat.{ℕ, _*_, _≤_, _<_};
 ghost use lib.ListN.{getD};
 ghost use Rattle.terms.specs.Limits.{mostSagas, mostTransactions, mostDependencies};
 ghost use Rattle.sets.specs.Reach.{leadsTo};
 ghost use Rattle.sets.specs.Sets.{mem};
-ghost use Rattle.number.specs.Number.{ceiling1};
 ghost use Rattle.tables.specs.Sorts.{placeOf, sortOf, isKnown, isSaga, isUndo, isPlain, undosOf, sagaOf};
+ghost use Rattle.tables.specs.Counts.{sagaCount, transactionCount, objectCount, dependencyCount};
 ghost use Rattle.tables.specs.Dependencies.{kindNumber, kindOf, mayBase, mayDepend, allowed, risesFrom, risesTo, entryHolds};
-ghost use Rattle.tables.specs.Circles.{isBeginKind, beginLink, stuck};
-ghost use Rattle.tables.specs.Reading.{emptyTables, placedField, stoppedEntry, refused, refusedEntry, refusedField, fieldAt, heldTo, fieldWithin, sagasFrom, entryAt, dependenciesFrom, unlessStuck, restFrom, tablesBy, tablesOf, oldTablesOf};
+ghost use Rattle.tables.specs.Circles.{isBeginKind, beginLink, hasCircle};
+ghost use Rattle.tables.specs.Reading.{emptyTables, refused, refusedEntry, refusedField, sagasFrom, entryAt, dependenciesFrom, unlessCircle, restFrom, tablesBy};
 
 // What a dependency asks of its base before its dependent may commit (the first three) or begin.
 pub enum Kind {
@@ -52,15 +53,9 @@ pub enum Sort {
     Unknown,
 }
 
-// A field within its range and the place after it, or a refusal with its place.
-pub enum Counted {
-    Within(usize, usize),
-    Stop(Refusal, usize),
-}
-
 // The sagas as far as they were read: what they own together and the place after them, or a refusal with its place.
 pub struct SagasRead {
-    pub answer: Counted,
+    pub answer: Field,
     pub tables: Tables,
 }
 
@@ -81,8 +76,8 @@ pub struct TablesRead {
     pub tables: Tables,
 }
 
-// What becomes of tables that can never move, because begin dependencies lead from a transaction back to itself: they are refused, or, as
-// those of an old book, read.
+// What becomes of tables that can never move, because begin dependencies go round in a circle: they are refused, or, where the caller says so,
+// read all the same.
 pub enum Circles {
     Forbidden,
     Permitted,
@@ -242,17 +237,56 @@ impl Tables {
             declared: 0,
         }
     }
-}
 
-// How many sagas there are, no more than there is room for.
-fn saga_count(tables: Tables) -> usize
-    ensures { λ r. ⌜ r ≡ min (tables .sagas) mostSagas ⌝ }
-{
-    let sagas = tables.sagas;
-    if sagas < Book::SAGAS {
-        return sagas;
+    // How many sagas there are, no more than there may be.
+    pub fn saga_count(self) -> usize
+        ensures { λ r. ⌜ r ≡ sagaCount self ⌝ }
+    {
+        let sagas = self.sagas;
+        if sagas < Book::SAGAS {
+            return sagas;
+        }
+        Book::SAGAS
     }
-    Book::SAGAS
+
+    // How many objects, no more than there may be.
+    pub fn object_count(self) -> usize
+        ensures { λ r. ⌜ r ≡ objectCount self ⌝ }
+    {
+        let objects = self.objects;
+        if objects < Book::OBJECTS {
+            return objects;
+        }
+        Book::OBJECTS
+    }
+
+    // How many declared dependencies, no more than there may be.
+    pub fn dependency_count(self) -> usize
+        ensures { λ r. ⌜ r ≡ dependencyCount self ⌝ }
+    {
+        let declared = self.declared;
+        if declared < Book::DEPENDENCIES {
+            return declared;
+        }
+        Book::DEPENDENCIES
+    }
+
+    // How many transactions of all sorts, no more than there may be.
+    pub fn transaction_count(self) -> usize
+        ensures { λ r. ⌜ r ≡ transactionCount self ⌝ }
+    {
+        let past = saga_at(self, Book::SAGAS);
+        let owned = past.first as usize;
+        let plain = self.plain;
+        if Book::TRANSACTIONS <= owned {
+            return Book::TRANSACTIONS;
+        }
+        let left = Book::TRANSACTIONS - owned;
+        if plain < left {
+            return owned + plain;
+        }
+        Book::TRANSACTIONS
+    }
 }
 
 // The sort of any number.
@@ -260,7 +294,7 @@ pub fn sort_of(tables: Tables, t: usize) -> Sort
     ensures { λ r. ⌜ r ≡ sortOf tables t ⌝ }
 {
     let plain = tables.plain;
-    let g = saga_count(tables);
+    let g = tables.saga_count();
     let mut first: usize = 0;
     let mut i: usize = 0;
     while i < g {
@@ -284,7 +318,7 @@ pub fn sort_of(tables: Tables, t: usize) -> Sort
 pub fn saga_at(tables: Tables, index: usize) -> Saga
     ensures { λ r. ⌜ r ≡ sagaOf tables index ⌝ }
 {
-    let g = saga_count(tables);
+    let g = tables.saga_count();
     let mut first: usize = 0;
     let mut i: usize = 0;
     while i < g {
@@ -320,50 +354,6 @@ pub fn undos(tables: Tables) -> u64
     set
 }
 
-// A field with its place.
-fn placed_field(f: Field, at: usize) -> Counted
-    ensures { λ r. ⌜ r ≡ placedField f at ⌝ }
-{
-    match f {
-        Field::Value(v, next) => Counted::Within(v, next),
-        Field::Fault(refusal) => Counted::Stop(refusal, at),
-    }
-}
-
-pub fn field_at(book: &[u8], at: usize, most: usize) -> Counted
-    ensures { λ r. ⌜ r ≡ fieldAt most (now (book .entry)) at ⌝ }
-{
-    let f = Number::at(book, at, most);
-    placed_field(f, at)
-}
-
-// A field from `low` to `high`, or this refusal at its place.
-fn held_to(field: Counted, at: usize, low: usize, high: usize, refusal: Refusal) -> Counted
-    ensures { λ r. ⌜ r ≡ heldTo at low high refusal field ⌝ }
-{
-    let Counted::Within(v, next) = field else {
-        return field;
-    };
-    if (v < low) | (high < v) {
-        return Counted::Stop(refusal, at);
-    }
-    Counted::Within(v, next)
-}
-
-fn field_within(
-    book: &[u8],
-    at: usize,
-    most: usize,
-    low: usize,
-    high: usize,
-    refusal: Refusal,
-) -> Counted
-    ensures { λ r. ⌜ r ≡ fieldWithin most (now (book .entry)) at low high refusal ⌝ }
-{
-    let field = field_at(book, at, most);
-    held_to(field, at, low, high, refusal)
-}
-
 // The steps of `count` sagas, with the running sum of what they own.
 fn sagas_from(book: &[u8], start: usize, most: usize, count: usize) -> SagasRead
     requires { ⌜ count ≤ mostSagas ⌝ }
@@ -374,8 +364,8 @@ fn sagas_from(book: &[u8], start: usize, most: usize, count: usize) -> SagasRead
     let mut i: usize = 0;
     let mut at = start;
     while i < count {
-        let f = field_within(book, at, most, 1, Saga::STEPS, Refusal::BadCount);
-        let Counted::Within(n, next) = f else {
+        let f = Number::within(book, at, most, 1, Saga::STEPS, Refusal::BadCount);
+        let Field::Value(n, next) = f else {
             let none = Tables::empty();
             return SagasRead {
                 answer: f,
@@ -386,7 +376,7 @@ fn sagas_from(book: &[u8], start: usize, most: usize, count: usize) -> SagasRead
         if Book::TRANSACTIONS < more {
             let none = Tables::empty();
             return SagasRead {
-                answer: Counted::Stop(Refusal::BadCount, at),
+                answer: Field::Fault(Refusal::BadCount, at),
                 tables: none,
             };
         }
@@ -397,18 +387,8 @@ fn sagas_from(book: &[u8], start: usize, most: usize, count: usize) -> SagasRead
         at = next;
     }
     SagasRead {
-        answer: Counted::Within(sum, at),
+        answer: Field::Value(sum, at),
         tables,
-    }
-}
-
-// A field that was refused, as what an entry is.
-fn stopped_entry(f: Counted) -> Entry
-    ensures { λ r. ⌜ r ≡ stoppedEntry f ⌝ }
-{
-    match f {
-        Counted::Within(_, next) => Entry::Stops(Refusal::Torn, next),
-        Counted::Stop(refusal, p) => Entry::Stops(refusal, p),
     }
 }
 
@@ -416,19 +396,13 @@ fn stopped_entry(f: Counted) -> Entry
 fn entry_at(book: &[u8], at: usize, most: usize) -> Entry
     ensures { λ r. ⌜ r ≡ entryAt most (now (book .entry)) at ⌝ }
 {
-    let f = field_at(book, at, most);
-    let Counted::Within(d, second) = f else {
-        return stopped_entry(f);
-    };
-    let g = field_at(book, second, most);
-    let Counted::Within(b, third) = g else {
-        return stopped_entry(g);
-    };
-    let h = field_at(book, third, most);
-    let Counted::Within(kind, next) = h else {
-        return stopped_entry(h);
-    };
-    Entry::Declares(d, b, kind, next)
+    let row = Row::read(book, at, most, 3);
+    let end = row.end;
+    let fields = row.fields;
+    match end {
+        Field::Value(_, next) => Entry::Declares(fields[0], fields[1], fields[2], next),
+        Field::Fault(refusal, place) => Entry::Stops(refusal, place),
+    }
 }
 
 // Whether an entry comes after the last one so far.
@@ -486,12 +460,12 @@ fn stopped_by_entry(e: Entry) -> TablesRead
 }
 
 // A field that was refused, as what the tables are.
-fn stopped_by_field(f: Counted) -> TablesRead
+fn stopped_by_field(f: Field) -> TablesRead
     ensures { λ r. ⌜ r ≡ refusedField f ⌝ }
 {
     match f {
-        Counted::Within(_, next) => refused(Refusal::Torn, next),
-        Counted::Stop(refusal, p) => refused(refusal, p),
+        Field::Value(_, next) => refused(Refusal::Torn, next),
+        Field::Fault(refusal, p) => refused(refusal, p),
     }
 }
 
@@ -539,11 +513,7 @@ fn dependencies_from(
 fn begin_links(tables: Tables) -> [u64; Book::TRANSACTIONS]
     ensures { λ r. ⌜ ((d b : ℕ) → d < mostTransactions → b < mostTransactions → mem (getD r d 0) b ≡ beginLink tables d b) ⌝ }
 {
-    let declared = tables.declared;
-    let mut n: usize = Book::DEPENDENCIES;
-    if declared < Book::DEPENDENCIES {
-        n = declared;
-    }
+    let n = tables.dependency_count();
     let mut links = [0u64; Book::TRANSACTIONS];
     let mut i: usize = 0;
     while i < n {
@@ -582,8 +552,8 @@ fn followed(links: [u64; Book::TRANSACTIONS]) -> [u64; Book::TRANSACTIONS]
 }
 
 // Whether begin dependencies lead from a transaction back to itself.
-fn never_move(tables: Tables) -> bool
-    ensures { λ r. ⌜ r ≡ stuck tables ⌝ }
+fn has_circle(tables: Tables) -> bool
+    ensures { λ r. ⌜ r ≡ hasCircle tables ⌝ }
 {
     let declared = tables.declared;
     if declared == 0 {
@@ -602,9 +572,9 @@ fn never_move(tables: Tables) -> bool
     false
 }
 
-// Tables that were read, unless they can never move and are no old book's; `place` is that of their dependency count.
-fn unless_stuck(circles: Circles, place: usize, read: TablesRead) -> TablesRead
-    ensures { λ r. ⌜ r ≡ unlessStuck circles place read ⌝ }
+// Tables that were read, unless they go round in a circle and none is permitted; `place` is that of their dependency count.
+fn unless_circle(circles: Circles, place: usize, read: TablesRead) -> TablesRead
+    ensures { λ r. ⌜ r ≡ unlessCircle circles place read ⌝ }
 {
     let Circles::Forbidden = circles else {
         return read;
@@ -614,7 +584,7 @@ fn unless_stuck(circles: Circles, place: usize, read: TablesRead) -> TablesRead
         return read;
     };
     let tables = read.tables;
-    if never_move(tables) {
+    if has_circle(tables) {
         return refused(Refusal::NeverMoves, place);
     }
     read
@@ -632,7 +602,7 @@ fn rest_from(
     requires { ⌜ (sum ≤ mostTransactions) × (tables .declared ≡ 0) ⌝ }
     ensures { λ r. ⌜ r ≡ restFrom circles most (now (book .entry)) at sum tables ⌝ }
 {
-    let f = field_within(
+    let f = Number::within(
         book,
         at,
         most,
@@ -640,15 +610,15 @@ fn rest_from(
         Book::TRANSACTIONS - sum,
         Refusal::BadCount,
     );
-    let Counted::Within(plain, p) = f else {
+    let Field::Value(plain, p) = f else {
         return stopped_by_field(f);
     };
-    let g = field_within(book, p, most, 0, Book::OBJECTS, Refusal::BadCount);
-    let Counted::Within(objects, q) = g else {
+    let g = Number::within(book, p, most, 0, Book::OBJECTS, Refusal::BadCount);
+    let Field::Value(objects, q) = g else {
         return stopped_by_field(g);
     };
-    let h = field_within(book, q, most, 0, Book::DEPENDENCIES, Refusal::BadCount);
-    let Counted::Within(count, first) = h else {
+    let h = Number::within(book, q, most, 0, Book::DEPENDENCIES, Refusal::BadCount);
+    let Field::Value(count, first) = h else {
         return stopped_by_field(h);
     };
     let mut all = tables;
@@ -656,14 +626,14 @@ fn rest_from(
     all.objects = objects;
     let n = sum + plain;
     let read = dependencies_from(book, first, most, count, n, all);
-    unless_stuck(circles, q, read)
+    unless_circle(circles, q, read)
 }
 
-fn tables_by(book: &[u8], circles: Circles) -> TablesRead
-    ensures { λ r. ⌜ r ≡ tablesBy circles ceiling1 (now (book .entry)) ⌝ }
+// The tables of a book whose numbers go up to `most`, and the place of its first event; or the refusal, with the empty tables.
+pub fn read_tables(book: &[u8], most: usize, circles: Circles) -> TablesRead
+    ensures { λ r. ⌜ r ≡ tablesBy circles most (now (book .entry)) ⌝ }
 {
-    let most = Number::MOST;
-    let e = field_within(
+    let e = Number::within(
         book,
         0,
         most,
@@ -671,32 +641,18 @@ fn tables_by(book: &[u8], circles: Circles) -> TablesRead
         Book::EDITION,
         Refusal::BadEdition,
     );
-    let Counted::Within(_, p) = e else {
+    let Field::Value(_, p) = e else {
         return stopped_by_field(e);
     };
-    let g = field_within(book, p, most, 0, Book::SAGAS, Refusal::BadCount);
-    let Counted::Within(count, q) = g else {
+    let g = Number::within(book, p, most, 0, Book::SAGAS, Refusal::BadCount);
+    let Field::Value(count, q) = g else {
         return stopped_by_field(g);
     };
     let s = sagas_from(book, q, most, count);
     let a = s.answer;
-    let Counted::Within(sum, after) = a else {
+    let Field::Value(sum, after) = a else {
         return stopped_by_field(a);
     };
     let tables = s.tables;
     rest_from(book, after, most, sum, tables, circles)
-}
-
-// The tables of a book and the place of its first event; or the refusal, with the empty tables.
-pub fn read_tables(book: &[u8]) -> TablesRead
-    ensures { λ r. ⌜ r ≡ tablesOf ceiling1 (now (book .entry)) ⌝ }
-{
-    tables_by(book, Circles::Forbidden)
-}
-
-// The same of an old book, whose tables may be such as can never move.
-pub fn read_old_tables(book: &[u8]) -> TablesRead
-    ensures { λ r. ⌜ r ≡ oldTablesOf ceiling1 (now (book .entry)) ⌝ }
-{
-    tables_by(book, Circles::Permitted)
 }

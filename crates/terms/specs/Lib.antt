@@ -1,3 +1,4 @@
 -- The definitions that the contracts of `terms` cite.
 pub mod Limits
+pub mod Events
 pub mod Refusals

@@ -1,4 +1,4 @@
--- Each limit of document 01 ('The book'), written once.
+-- Each limit (docs/RULES.md, 1 The book), written once.
 use Prim.Native.Nat.{ℕ}
 use Rattle.terms.specs.declared.Limits.{Limits}
 

@@ -1,29 +1,7 @@
--- The table of refusals of document 01 ('What comes back'): the number of each.
+-- The table of refusals (docs/RULES.md, 4 Refusals): the number of each.
 use Prim.Native.Nat.{ℕ}
 use Rattle.terms.specs.declared.Refusal.{Refusal}
-use Rattle.terms.specs.declared.Refusal.the-variants.{
-  TooLong,
-  Torn,
-  BadNumber,
-  BadEdition,
-  BadCount,
-  BadDependency,
-  BadCode,
-  NotInTables,
-  NeverDoes,
-  NotIdle,
-  NotActive,
-  NotResponsible,
-  SagaRule,
-  DependencyRule,
-  DirtyRead,
-  OnRing,
-  MustWait,
-  Full,
-  NoRoom,
-  AlreadyEnded,
-  NeverMoves,
-}
+use Rattle.terms.specs.declared.Refusal.the-variants.{TooLong, Torn, BadNumber, BadEdition, BadCount, BadDependency, BadCode, NotInTables, NeverDoes, NotIdle, NotActive, NotResponsible, SagaRule, DependencyRule, DirtyRead, OnRing, MustWait, Full, NoRoom, AlreadyEnded, NeverMoves}
 use Rattle.terms.specs.declared.Verdict.{Verdict}
 use Rattle.terms.specs.declared.Verdict.the-variants.{Accepted, Refused}
 

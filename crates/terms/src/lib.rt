@@ -1,6 +1,8 @@
-// The words of the rules that every crate uses: what a book and a saga are limited to, why something is refused, and what a verdict is.
+// The words of the rules that every crate uses: what a book and a saga are limited to, what an event is, why something is refused, and what a
+// verdict is.
 ghost use mathlib.Core.Path.{_≡_};
 ghost use Rattle.terms.specs.Limits.{limits};
+ghost use Rattle.terms.specs.Events.{isWrite};
 ghost use Rattle.terms.specs.Refusals.{numberOf, verdictNumber};
 
 // A book: the bytes in which a service keeps its tables and its events. Its limits are these.
@@ -56,6 +58,34 @@ impl Limits {
             dependencies: Book::DEPENDENCIES,
         }
     }
+}
+
+// What an operation does to its object.
+pub enum Mark {
+    Read,
+    Write,
+}
+
+impl Mark {
+    pub fn is_write(self) -> bool
+        ensures { λ r. ⌜ r ≡ isWrite self ⌝ }
+    {
+        match self {
+            Mark::Read => false,
+            Mark::Write => true,
+        }
+    }
+}
+
+// One event of a book: its sort with its fields.
+pub enum Event {
+    Begin(usize),
+    Commit(usize),
+    Abort(usize),
+    Operation(usize, usize, Mark),
+    Delegate(usize, usize, usize),
+    CommitOne(usize, usize),
+    AbortOne(usize, usize),
 }
 
 // Why a book, an event or a room is refused: one case for each number of the table of refusals.

@@ -4,4 +4,4 @@ pub mod TieLaws
 pub mod TableLaws
 pub mod VisitLaws
 pub mod RingLaws
-pub mod Promises
+pub mod RingsExactHolds

@@ -3,7 +3,7 @@ use Prim.Native.Nat.{ℕ, zero, suc, _+_, _≤_, _<_}
 use native.Mathlib.Numerals.{add-one}
 use native.Mathlib.Omega.{arith}
 use mathlib.Core.Path.{_≡_, refl, sym, ap, ap₂, _∙_}
-use mathlib.Core.Bool.{Bool, true, false, cond, _&&_, and-true, and-false}
+use mathlib.Core.Bool.{Bool, false, cond, and-true, and-false}
 use mathlib.Core.Logic.{_≢_}
 use mathlib.Core.List.{List}
 use lib.Dec.{ltb, eqb}
@@ -15,28 +15,28 @@ use Rattle.laws.proofs.Decisions.{same-or, lt-or}
 use Rattle.ties.specs.declared.Fate.{Fate}
 use Rattle.ties.specs.declared.Operation.{Operation}
 use Rattle.ties.specs.declared.Ops.{Ops}
-use Rattle.ties.specs.Operations.{mostOperations, isActive, blank, opAt, size, made, endedAs, endedAlone, endedBy, changed, rewrites, rewritten, onlyActive, allHeldBy, endedOps}
+use Rattle.ties.specs.Operations.{mostOperations, isActive, noOperation, opAt, size, made, endedAs, endedAlone, endedBy, changed, rewrites, rewritten, onlyActive, allHeldBy, endedOps}
 
 -- what stands at p after a store at q
-stored-at : (l : List Operation) (q : ℕ) (op : Operation) → q < length l → (p : ℕ) → getD (set l q op) p blank ≡ cond (eqb p q) op (getD l p blank)
+stored-at : (l : List Operation) (q : ℕ) (op : Operation) → q < length l → (p : ℕ) → getD (set l q op) p noOperation ≡ cond (eqb p q) op (getD l p noOperation)
 stored-at l q op h p =
     same-or p q
-    (λ e. rw (eq-eqb p q e, e) (getD-set-same l q op blank h))
-    (λ e. rw (ne-eqb p q e) (getD-set-other l q p op blank e))
+    (λ e. rw (eq-eqb p q e, e) (getD-set-same l q op noOperation h))
+    (λ e. rw (ne-eqb p q e) (getD-set-other l q p op noOperation e))
 
--- the same for a change that leaves a blank operation as it is: then it does not matter whether the list has a place q
-stored-over : (f : Operation → Operation) → f blank ≡ blank
-    → (l : List Operation) (q p : ℕ) → getD (set l q (f (getD l q blank))) p blank ≡ cond (eqb p q) (f (getD l p blank)) (getD l p blank)
+-- the same for a change that leaves what is no operation as it is: then it does not matter whether the list has a place q
+stored-over : (f : Operation → Operation) → f noOperation ≡ noOperation
+    → (l : List Operation) (q p : ℕ) → getD (set l q (f (getD l q noOperation))) p noOperation ≡ cond (eqb p q) (f (getD l p noOperation)) (getD l p noOperation)
 stored-over f z l q p =
     same-or p q
     (λ e.
     rw (eq-eqb p q e, e)
     (lt-or q (length l)
-    (λ h. getD-set-same l q (f (getD l q blank)) blank h)
+    (λ h. getD-set-same l q (f (getD l q noOperation)) noOperation h)
     (λ h.
-    let past : getD l q blank ≡ blank = List·getD-eq-default l blank {n = q} h in
-    ap (λ (s : List Operation). getD s q blank) (set-out l q (f (getD l q blank)) h) ∙ past ∙ sym z ∙ ap f (sym past))))
-    (λ e. rw (ne-eqb p q e) (getD-set-other l q p (f (getD l q blank)) blank e))
+    let past : getD l q noOperation ≡ noOperation = List·getD-eq-default l noOperation {n = q} h in
+    ap (λ (s : List Operation). getD s q noOperation) (set-out l q (f (getD l q noOperation)) h) ∙ past ∙ sym z ∙ ap f (sym past))))
+    (λ e. rw (ne-eqb p q e) (getD-set-other l q p (f (getD l q noOperation)) noOperation e))
 
 -- ---- one operation more
 
@@ -68,21 +68,21 @@ stored i ops op = record { all = set (ops .all) i op; count = ops .count }
 
 -- ---- operations rewritten
 
-changed-more : (n : ℕ) (f : ℕ → Operation → Operation) (l : List Operation) → set (changed n f l) n (f n (getD l n blank)) ≡ changed (n + 1) f l
+changed-more : (n : ℕ) (f : ℕ → Operation → Operation) (l : List Operation) → set (changed n f l) n (f n (getD l n noOperation)) ≡ changed (n + 1) f l
 unfolding changed
 changed-more n f l = rw add-one refl
 
-changed-at : (n : ℕ) (f : ℕ → Operation → Operation) → ((p : ℕ) → f p blank ≡ blank)
-    → (l : List Operation) (p : ℕ) → getD (changed n f l) p blank ≡ cond (ltb p n) (f p (getD l p blank)) (getD l p blank)
+changed-at : (n : ℕ) (f : ℕ → Operation → Operation) → ((p : ℕ) → f p noOperation ≡ noOperation)
+    → (l : List Operation) (p : ℕ) → getD (changed n f l) p noOperation ≡ cond (ltb p n) (f p (getD l p noOperation)) (getD l p noOperation)
 unfolding changed
 changed-at zero f z l p = rw (le-ltb p 0 (omega arith))
 changed-at (suc n) f z l p =
-    let here : getD (changed n f l) n blank ≡ getD l n blank = changed-at n f z l n ∙ rw (le-ltb n n (omega arith)) in
-    ap (λ (x : Operation). getD (set (changed n f l) n (f n x)) p blank) (sym here)
+    let here : getD (changed n f l) n noOperation ≡ getD l n noOperation = changed-at n f z l n ∙ rw (le-ltb n n (omega arith)) in
+    ap (λ (x : Operation). getD (set (changed n f l) n (f n x)) p noOperation) (sym here)
     ∙ stored-over (f n) (z n) (changed n f l) n p
     ∙ rw (changed-at n f z l p)
     (same-or p n
-    (λ e. rw (eq-eqb p n e, le-ltb p n (omega arith), lt-ltb p (suc n) (omega arith)) (ap (λ (k : ℕ). f k (getD l p blank)) (sym e)))
+    (λ e. rw (eq-eqb p n e, le-ltb p n (omega arith), lt-ltb p (suc n) (omega arith)) (ap (λ (k : ℕ). f k (getD l p noOperation)) (sym e)))
     (λ e.
     rw (ne-eqb p n e)
     (lt-or p n
@@ -92,10 +92,10 @@ changed-at (suc n) f z l p =
 length-changed : (n : ℕ) (f : ℕ → Operation → Operation) (l : List Operation) → length (changed n f l) ≡ length l
 unfolding changed
 length-changed zero f l = refl
-length-changed (suc n) f l = length-set (changed n f l) n (f n (getD l n blank)) ∙ length-changed n f l
+length-changed (suc n) f l = length-set (changed n f l) n (f n (getD l n noOperation)) ∙ length-changed n f l
 
--- a blank operation is left as it is
-module _ (which : ℕ → Operation → Bool) (how : Operation → Operation) (quiet : (p : ℕ) → which p blank ≡ false) (ops : Ops) where
+-- what is no operation is left as it is
+module _ (which : ℕ → Operation → Bool) (how : Operation → Operation) (quiet : (p : ℕ) → which p noOperation ≡ false) (ops : Ops) where
   pub rewritten-at : (p : ℕ) → opAt (rewritten which how ops) p ≡ cond (ltb p (size ops)) (rewrites which how p (opAt ops p)) (opAt ops p)
   unfolding rewritten
   rewritten-at p = changed-at (size ops) (rewrites which how) (λ k. rw (quiet k)) (ops .all) p
@@ -109,10 +109,10 @@ module _ (which : ℕ → Operation → Bool) (how : Operation → Operation) (q
   count-rewritten = refl
 
   -- what has the same operations is it
-  pub is-rewritten : (l : List Operation) → length l ≡ length (ops .all) → ((p : ℕ) → getD l p blank ≡ opAt (rewritten which how ops) p)
+  pub is-rewritten : (l : List Operation) → length l ≡ length (ops .all) → ((p : ℕ) → getD l p noOperation ≡ opAt (rewritten which how ops) p)
       → record { all = l; count = ops .count } ≡ rewritten which how ops
   unfolding rewritten
-  is-rewritten l e h = λ i. record { all = ext-getD blank l (rewritten which how ops .all) (e ∙ sym length-rewritten) (λ k b. h k) i; count = ops .count }
+  is-rewritten l e h = λ i. record { all = ext-getD noOperation l (rewritten which how ops .all) (e ∙ sym length-rewritten) (λ k b. h k) i; count = ops .count }
 
 -- one operation: the store of it, and none where there is no such
 module _ (q : ℕ) (how : Operation → Operation) (ops : Ops) where

@@ -14,7 +14,7 @@ use Rattle.terms.specs.Limits.{mostTransactions}
 use Rattle.sets.specs.Reach.{among}
 use Rattle.ties.specs.declared.Operation.{Operation}
 use Rattle.ties.specs.declared.Ops.{Ops}
-use Rattle.ties.specs.Operations.{blank, opAt, size}
+use Rattle.ties.specs.Operations.{noOperation, opAt, size}
 use Rattle.ties.specs.Ties.{neitherAborted, apart, bothOwned, tiedTo, tied, counts, edge, before, preceded, dirtyAt, dirty}
 
 -- the parts of a tie
@@ -128,5 +128,5 @@ module _ (ops : Ops) (t : ℕ) where
   pub dirty-past : (q : ℕ) → length (ops .all) ≤ q → false ≡ dirtyAt ops t q
   unfolding dirtyAt
   dirty-past q h =
-      let past : opAt ops q ≡ blank = List·getD-eq-default (ops .all) blank {n = q} h in
+      let past : opAt ops q ≡ noOperation = List·getD-eq-default (ops .all) noOperation {n = q} h in
       rw (past, and-false (eqb 0 t))

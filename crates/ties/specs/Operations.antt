@@ -1,11 +1,11 @@
--- Accepted operations (document 01, 'States and who may act'): each is active, committed or aborted and has a responsible transaction.
+-- Accepted operations (docs/RULES.md, 2 States and who may act): each is active, committed or aborted and has a responsible transaction.
 use Prim.Native.Nat.{ℕ, zero, suc, _+_, min}
 use mathlib.Core.Bool.{Bool, true, false, cond, _&&_}
 use mathlib.Core.List.{List}
 use lib.Dec.{ltb, eqb}
 use lib.ListN.{getD, set, replicate}
-use Rattle.ties.specs.declared.Mark.{Mark}
-use Rattle.ties.specs.declared.Mark.the-variants.{Read, Write}
+use Rattle.terms.specs.declared.Mark.{Mark}
+use Rattle.terms.specs.declared.Mark.the-variants.{Read}
 use Rattle.ties.specs.declared.Fate.{Fate}
 use Rattle.ties.specs.declared.Fate.the-variants.{Aborted, Active, Committed}
 use Rattle.ties.specs.declared.Operation.{Operation}
@@ -14,10 +14,6 @@ use Rattle.ties.specs.declared.Ops.{Ops}
 -- accepted operations are numbered 0, 1, 2 and so on, at most 256 in a book
 abbrev pub mostOperations : ℕ
 mostOperations = 256
-
-abbrev pub isWrite : Mark → Bool
-isWrite Read = false
-isWrite Write = true
 
 abbrev pub isAborted : Fate → Bool
 isAborted Aborted = true
@@ -35,15 +31,15 @@ isCommitted Active = false
 isCommitted Committed = true
 
 -- what stands where no operation was accepted: one that has ended, which nothing may end or change
-abbrev pub blank : Operation
-blank = record { object = 0; mark = Read; responsible = 0; fate = Aborted; ended = 0 }
+abbrev pub noOperation : Operation
+noOperation = record { object = 0; mark = Read; responsible = 0; fate = Aborted; ended = 0 }
 
 -- before the first operation
 abbrev pub noOps : Ops
-noOps = record { all = replicate mostOperations blank; count = 0 }
+noOps = record { all = replicate mostOperations noOperation; count = 0 }
 
 abbrev pub opAt : Ops → ℕ → Operation
-opAt ops q = getD (ops .all) q blank
+opAt ops q = getD (ops .all) q noOperation
 
 -- how many operations were accepted; of a count that no book reaches, as many as there is room for
 abbrev pub size : Ops → ℕ
@@ -85,7 +81,7 @@ endedAlone fate accepted op = cond (isActive (op .fate)) (endedAs fate accepted 
 -- the first n rewritten by f
 unfoldable pub changed : ℕ → (ℕ → Operation → Operation) → List Operation → List Operation
 changed zero f l = l
-changed (suc n) f l = set (changed n f l) n (f n (getD l n blank))
+changed (suc n) f l = set (changed n f l) n (f n (getD l n noOperation))
 
 abbrev pub rewrites : (ℕ → Operation → Bool) → (Operation → Operation) → ℕ → Operation → Operation
 rewrites which how p op = cond (which p op) (how op) op

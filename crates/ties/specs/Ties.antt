@@ -1,4 +1,4 @@
--- Section 'Ties' of document 01.
+-- Ties between operations (docs/RULES.md, 3 Ties).
 use Prim.Native.Nat.{ℕ}
 use mathlib.Core.Bool.{Bool, not, _&&_, _||_}
 use mathlib.Core.List.{List}
@@ -6,10 +6,11 @@ use lib.Dec.{ltb, eqb}
 use Rattle.laws.specs.Index.{anyBelow, grid}
 use Rattle.terms.specs.Limits.{mostTransactions}
 use Rattle.sets.specs.Reach.{leadsTo}
-use Rattle.ties.specs.declared.Mark.{Mark}
+use Rattle.terms.specs.declared.Mark.{Mark}
+use Rattle.terms.specs.Events.{isWrite}
 use Rattle.ties.specs.declared.Operation.{Operation}
 use Rattle.ties.specs.declared.Ops.{Ops}
-use Rattle.ties.specs.Operations.{isWrite, isAborted, isActive, isCommitted, opAt, size}
+use Rattle.ties.specs.Operations.{isAborted, isActive, isCommitted, opAt, size}
 
 -- ---- "Operations p and q, p earlier, on the same object, at least one a write, are tied if p was active when q was accepted."
 

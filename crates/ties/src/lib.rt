@@ -1,17 +1,12 @@
 // Accepted operations, how they end and change hands, and the ties between them.
 use terms::Book;
+use terms::Mark;
 ghost use mathlib.Core.Path.{_≡_};
 ghost use Prim.Native.Nat.{_+_, _≤_, _<_};
 ghost use Rattle.laws.specs.Index.{anyBelow};
 ghost use Rattle.terms.specs.Limits.{mostTransactions};
-ghost use Rattle.ties.specs.Operations.{isWrite, isAborted, isActive, isCommitted, mostOperations, noOps, size, made, givenTo, given, endedAlone, endedOne, endedBy, endedOps};
+ghost use Rattle.ties.specs.Operations.{isAborted, isActive, isCommitted, mostOperations, noOps, size, made, givenTo, given, endedAlone, endedOne, endedBy, endedOps};
 ghost use Rattle.ties.specs.Ties.{conflict, tiedTo, tied, counts, before, pairsOf, preceded, onRing, readBy, dirties, dirtyAt, dirty, waitsFor, mustWait};
-
-// What an operation does to its object.
-pub enum Mark {
-    Read,
-    Write,
-}
 
 // How an operation stands. A blank place counts as aborted: nothing may end or change it.
 pub enum Fate {
@@ -156,17 +151,6 @@ pub struct Ops {
     pub count: usize,
 }
 
-impl Mark {
-    pub fn is_write(self) -> bool
-        ensures { λ r. ⌜ r ≡ isWrite self ⌝ }
-    {
-        match self {
-            Mark::Read => false,
-            Mark::Write => true,
-        }
-    }
-}
-
 impl Fate {
     pub fn is_aborted(self) -> bool
         ensures { λ r. ⌜ r ≡ isAborted self ⌝ }
@@ -204,14 +188,14 @@ impl Ops {
     pub fn none() -> Ops
         ensures { λ r. ⌜ r ≡ noOps ⌝ }
     {
-        let blank = Operation {
+        let none = Operation {
             object: 0,
             mark: Mark::Read,
             responsible: 0,
             fate: Fate::Aborted,
             ended: 0,
         };
-        let all = [blank; Operation::MOST];
+        let all = [none; Operation::MOST];
         Ops { all, count: 0 }
     }
 

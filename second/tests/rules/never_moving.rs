@@ -1,8 +1,9 @@
-//! Tables that can never move: refusal 21, and the old way without it.
+//! Tables that can never move: refusal 21, and reading with circles permitted.
 
 use crate::books::{answer, Book, LISTED, READ};
 use second::{
-    listing, listing_old, opening, opening_old, read, read_old, report, unpack, write, Refused,
+    listing, listing_circles_permitted, opening, opening_circles_permitted, read,
+    read_circles_permitted, report, unpack, write, Refused,
 };
 
 const BEGIN_KINDS: [u8; 4] = [4, 5, 6, 7];
@@ -29,9 +30,9 @@ fn moves(tables: &Book) {
     assert_eq!(tables.number(), 0);
 }
 
-/// Number, events and place of a book read in the old way.
-fn old_answer(book: &Book) -> (u8, usize, usize) {
-    let reading = read_old(&book.0);
+/// Number, events and place of a book read with circles permitted.
+fn circles_answer(book: &Book) -> (u8, usize, usize) {
+    let reading = read_circles_permitted(&book.0);
     (reading.number, reading.events, reading.place)
 }
 
@@ -231,45 +232,45 @@ fn unpacking_and_writing() {
 }
 
 #[test]
-fn in_the_old_way_a_ring_is_taken_and_nobody_on_it_begins() {
+fn with_circles_permitted_a_ring_is_taken_and_nobody_on_it_begins() {
     let entries = [[0, 6, 4], [6, 7, 5], [7, 0, 6], [8, 6, 2]];
     let book = mixed(&entries);
     never_moves(&book, 6);
-    assert_eq!(old_answer(&book), (0, 0, 0));
+    assert_eq!(circles_answer(&book), (0, 0, 0));
     for (t, number) in [(0, 14), (6, 14), (7, 14), (1, 13), (4, 0), (8, 0)] {
-        assert_eq!(old_answer(&book.clone().begin(t)).0, number, "{t}");
+        assert_eq!(circles_answer(&book.clone().begin(t)).0, number, "{t}");
     }
     let begun = book.begin(4).done(5).commit(4).begin(8).operate(8, 0, READ);
-    assert_eq!(old_answer(&begun), (0, 6, 0));
+    assert_eq!(circles_answer(&begun), (0, 6, 0));
     let end = begun.0.len();
     for t in [0, 6, 7] {
         let waiting = begun.clone().begin(t);
-        assert_eq!(old_answer(&waiting), (14, 6, end));
-        assert_eq!(opening_old(&waiting.0), &begun.0);
+        assert_eq!(circles_answer(&waiting), (14, 6, end));
+        assert_eq!(opening_circles_permitted(&waiting.0), &begun.0);
         never_moves(&waiting, 6);
     }
     // The base of 8 never ends, and 8 may commit only after it.
-    assert_eq!(old_answer(&begun.commit(8)), (14, 6, end));
+    assert_eq!(circles_answer(&begun.commit(8)), (14, 6, end));
 }
 
 #[test]
-fn what_the_old_way_shows() {
+fn what_is_shown_with_circles_permitted() {
     let book = plain(3, &[[0, 1, 4], [1, 0, 4]])
         .begin(2)
         .operate(2, 0, READ);
     let shown = "book accepted 2\nt 0 idle\nt 1 idle\nt 2 active\nop 0 0 read 2 active\n";
-    assert_eq!(listing_old(&book.0), shown);
-    assert_eq!(opening_old(&book.0), &book.0);
-    let reported = report(&read_old(&book.0));
+    assert_eq!(listing_circles_permitted(&book.0), shown);
+    assert_eq!(opening_circles_permitted(&book.0), &book.0);
+    let reported = report(&read_circles_permitted(&book.0));
     assert_eq!((reported.active, reported.lowest), (1, 2));
     let torn = book.clone().then(&[4, 2]);
-    assert_eq!(opening_old(&torn.0), &book.0);
+    assert_eq!(opening_circles_permitted(&torn.0), &book.0);
     let shown = shown.replace("accepted 2", "refused 2 2 19");
-    assert_eq!(listing_old(&torn.0), shown);
+    assert_eq!(listing_circles_permitted(&torn.0), shown);
 }
 
 #[test]
-fn in_the_old_way_all_other_refusals_stand() {
+fn with_circles_permitted_all_other_refusals_stand() {
     let books = [
         Vec::new(),
         LISTED.to_vec(),
@@ -283,12 +284,12 @@ fn in_the_old_way_all_other_refusals_stand() {
         plain(2, &[]).then(&[8]).0,
     ];
     for book in books {
-        assert_eq!(listing_old(&book), listing(&book));
-        assert_eq!(opening_old(&book), opening(&book));
-        assert_eq!(report(&read_old(&book)), report(&read(&book)));
+        assert_eq!(listing_circles_permitted(&book), listing(&book));
+        assert_eq!(opening_circles_permitted(&book), opening(&book));
+        assert_eq!(report(&read_circles_permitted(&book)), report(&read(&book)));
     }
     // Of a ring too: an entry that can't stand there, and a book that breaks off.
     let torn = Book(vec![1, 0, 2, 0, 3, 0, 1, 4, 1, 0, 4]);
-    assert_eq!(old_answer(&torn), (2, 0, 11));
-    assert_eq!(old_answer(&torn.then(&[1, 0, 4])), (6, 0, 11));
+    assert_eq!(circles_answer(&torn), (2, 0, 11));
+    assert_eq!(circles_answer(&torn.then(&[1, 0, 4])), (6, 0, 11));
 }

@@ -4,17 +4,15 @@ use mathlib.Core.Path.{sym}
 use lib.Seq.{length-take-le}
 use Rattle.cases.proofs.one_case.Statement.{statement}
 use Rattle.cases.proofs.one_case.Tie as tie
-use Rattle.cases.proofs.one_case.Reads as reads
-use Rattle.cases.proofs.one_case.Lts as lts
-use Rattle.cases.proofs.read_and_answer.Reads as read-and-answer-reads
-use Rattle.cases.proofs.three.Reads as three-reads
-use Rattle.io.proofs.read_full.Reads as read-full-reads
 
-slice-aggregate-read-full : tie.Need-slice-aggregate-read-full
-slice-aggregate-read-full c = search needs
+slice-aggregate-read-part : tie.Need-slice-aggregate-read-part
+slice-aggregate-read-part c = search needs
 
-read-full-requires : tie.Need-read-full-requires
-read-full-requires c κs = search needs
+read-part-requires : tie.Need-read-part-requires
+read-part-requires c κs = search needs
+
+enum-told : tie.Need-enum-told
+enum-told c = search needs
 
 returns : tie.Need-returns
 returns c = search needs
@@ -65,8 +63,9 @@ pub one-case-spec : {M : Type 1} → statement M
 one-case-spec =
     tie.close
     (tie.spec
-    slice-aggregate-read-full
-    read-full-requires
+    slice-aggregate-read-part
+    read-part-requires
+    enum-told
     returns
     array-read-three
     array-read-three-2

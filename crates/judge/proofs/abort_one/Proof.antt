@@ -1,7 +1,7 @@
 use mathlib.Core.Path.{sym}
 use mathlib.Core.List.{[]}
 use Rattle.judge.specs.Judge.{changeOf, singleLines}
-use Rattle.judge.specs.declared.Event.the-variants.{AbortOne}
+use Rattle.terms.specs.declared.Event.the-variants.{AbortOne}
 use Rattle.judge.proofs.RuleLaws.{shared-refused, shared-passed}
 use borrow.Author.Needs.{needs}
 use Rattle.judge.proofs.abort_one.Statement.{statement}

@@ -5,7 +5,7 @@ use Rattle.terms.specs.declared.Refusal.{Refusal}
 use Rattle.terms.specs.declared.Refusal.the-variants.{DirtyRead, OnRing}
 use Rattle.ties.specs.Ties.{dirtyAt, onRing}
 use Rattle.judge.specs.Judge.{changeOf, commitOneLines, ruledBy, singleLines}
-use Rattle.judge.specs.declared.Event.the-variants.{CommitOne}
+use Rattle.terms.specs.declared.Event.the-variants.{CommitOne}
 use Rattle.judge.proofs.RuleLaws.{shared-refused, shared-passed}
 use borrow.Author.Needs.{needs}
 use Rattle.judge.proofs.commit_one.Statement.{statement}

@@ -23,13 +23,16 @@ abbrev barsAt : Bool → List Transaction → ℕ → Tables → ℕ → Bool
 barsAt begins transactions t tables k = barredBy begins transactions t (dependencyAt tables k)
 
 abbrev Inv-loop : tie.InvT-loop
-Inv-loop begins t tables transactions declared n i₀ i = (i ≤ n) × (n ≡ min (tables .declared) mostDependencies) × (anyBelow i (barsAt begins transactions t tables) ≡ false)
+Inv-loop begins t tables transactions n i₀ i = (i ≤ n) × (n ≡ min (tables .declared) mostDependencies) × (anyBelow i (barsAt begins transactions t tables) ≡ false)
 
 abbrev μ-loop : tie.MeasureT-loop
-μ-loop begins t tables transactions declared n i₀ i = n - i
+μ-loop begins t tables transactions n i₀ i = n - i
+
+dependency-count-requires : tie.Need-dependency-count-requires Inv-loop μ-loop
+dependency-count-requires c κs = search needs
 
 loop-holds : tie.Need-loop-holds Inv-loop μ-loop
-loop-holds c = (omega arith, ⊎-elim (λ w. omega arith) (λ w. omega arith) (c .if1 .came), any-none _)
+loop-holds c = (omega arith, c .dependency-count .ensures, any-none _)
 
 mul-d : tie.Need-mul-d Inv-loop μ-loop
 mul-d c = search needs
@@ -57,9 +60,9 @@ returns c =
     let d = dependencyAt (a .t2) i in
     let whole : length (a .t3) ≡ mostTransactions = search needs in
     search-hit (barsAt (a .begins) (a .t3) (a .t) (a .t2)) (min (a .t2 .declared) mostDependencies) i
-    (own-dependent (a .begins) (a .t3) (a .t) d (c .before .before .before .before .if2 .taken)
-    (⊎-elim (λ w. w .2) (λ w. w .1 ∙ sym (past-idle (a .t3) (d .base) (omega arith))) (c .before .before .if3 .came)) (c .before .kind-bars .ensures))
-    (c .if4 .taken) (omega arith)
+    (own-dependent (a .begins) (a .t3) (a .t) d (c .before .before .before .before .if1 .taken)
+    (⊎-elim (λ w. w .2) (λ w. w .1 ∙ sym (past-idle (a .t3) (d .base) (omega arith))) (c .before .before .if2 .came)) (c .before .kind-bars .ensures))
+    (c .if3 .taken) (omega arith)
 
 add-i : tie.Need-add-i Inv-loop μ-loop
 add-i c = omega arith
@@ -80,7 +83,7 @@ loop-again c =
           (λ w. sym (w .4 .left) ∙ own-dependent (a .begins) (a .t3) (a .t) d (w .0 .taken)
           (⊎-elim (λ v. v .2) (λ v. v .1 ∙ sym (past-idle (a .t3) (d .base) (omega arith))) (w .2 .came)) (w .3 .ensures))
           (λ w. other-dependent (a .begins) (a .t3) (a .t) d (w .left))
-          (c .if2 .came)) refl,
+          (c .if1 .came)) refl,
     )
 
 returns-2 : tie.Need-returns-2 Inv-loop μ-loop
@@ -95,6 +98,7 @@ declared-bars-spec =
     (tie.spec
     Inv-loop
     μ-loop
+    dependency-count-requires
     loop-holds
     mul-d
     element-copy-out-d

@@ -1,4 +1,6 @@
 use native.Mathlib.Omega.{arith}
+use Prim.Native.Nat.{ℕ}
+use lib.Dec.{ltb}
 use mathlib.Core.Path.{_≡_, sym, ap, ap₂, _∙_}
 use mathlib.Core.Bool.{Bool, false, not, _&&_, _||_}
 use lib.ListN.{length}
@@ -24,34 +26,37 @@ missing s = unknown (s .args .tables) (s .args .t) || unknownObject (s .args .ta
 abbrev waits : tie.Start → Sort → Bool
 waits s x = isUndo x && mustWait (s .args .ops) (s .args .t) (s .args .object) (s .args .mark)
 
-missing-told : (c : tie.After-is-object) → (not (c .before .is-known .result) || not (c .is-object .result)) ≡ missing (c .before .before .before)
-missing-told c = ap₂ _||_ (ap not (c .before .is-known .ensures ∙ ap isKnown (c .before .before .sort-of .ensures))) (ap not (c .is-object .ensures))
+missing-told : (c : tie.After-is-known)
+    → (not (c .is-known .result) || not (ltb (c .before .before .before .args .object) (c .before .before .object-count .result))) ≡ missing (c .before .before .before)
+missing-told c =
+    ap₂ _||_ (ap not (c .is-known .ensures ∙ ap isKnown (c .before .sort-of .ensures)))
+    (ap (λ (n : ℕ). not (ltb (c .before .before .before .args .object) n)) (c .before .before .object-count .ensures))
 
 -- what each test says where it was passed
 known : (c : tie.Else1) → missing (c .before .before .before .before) ≡ false
 known c = sym (missing-told (c .before)) ∙ c .if1 .left
 
 no-saga : (c : tie.Else2) → let a = c .before .before .before .before .before .before .args in isSaga (sortOf (a .tables) (a .t)) ≡ false
-no-saga c = told isSaga (c .before .is-saga .ensures) (c .before .before .before .before .before .sort-of .ensures) (c .if2 .left)
+no-saga c = told isSaga (c .before .is-saga .ensures) (c .before .before .before .before .sort-of .ensures) (c .if2 .left)
 
 active : (c : tie.Else3) → let a = c .before .before .before .before .before .before .before .before .before .args in inactive (a .transactions) (a .t) ≡ false
 active c = told-not isActive (c .before .is-active .ensures) (c .before .before .phase-of .ensures) (c .if3 .left)
 
 no-wait : (c : tie.Else4) → let s = c .before .before .before .before .before .before .before .before .before .before .before in waits s (sortOf (s .args .tables) (s .args .t)) ≡ false
-no-wait c = told (waits (c .before .before .before .before .before .before .before .before .before .before .before)) (c .before .undo-waits .ensures) (c .before .before .before .before .before .before .before .before .before .before .sort-of .ensures) (c .if4 .left)
+no-wait c = told (waits (c .before .before .before .before .before .before .before .before .before .before .before)) (c .before .undo-waits .ensures) (c .before .before .before .before .before .before .before .before .before .sort-of .ensures) (c .if4 .left)
 
 -- the array has all its elements
 whole : (c : tie.Start) → length (c .args .transactions) ≡ mostTransactions
 whole c = search needs
+
+object-count-requires : tie.Need-object-count-requires
+object-count-requires c κs = search needs
 
 sort-of-requires : tie.Need-sort-of-requires
 sort-of-requires c κs = search needs
 
 is-known-requires : tie.Need-is-known-requires
 is-known-requires c κs = search needs
-
-is-object-requires : tie.Need-is-object-requires
-is-object-requires c κs = search needs
 
 refused-requires : tie.Need-refused-requires
 refused-requires c κs = search needs
@@ -66,7 +71,7 @@ refused-requires-2 : tie.Need-refused-requires-2
 refused-requires-2 c κs = search needs
 
 returns-2 : tie.Need-returns-2
-returns-2 c = rw (known (c .before .before .before), told isSaga (c .before .before .is-saga .ensures) (c .before .before .before .before .before .before .sort-of .ensures) (c .before .if2 .taken)) (c .refused2 .ensures)
+returns-2 c = rw (known (c .before .before .before), told isSaga (c .before .before .is-saga .ensures) (c .before .before .before .before .before .sort-of .ensures) (c .before .if2 .taken)) (c .refused2 .ensures)
 
 phase-of-requires : tie.Need-phase-of-requires
 phase-of-requires c κs = search needs
@@ -90,7 +95,7 @@ refused-requires-4 c κs = search needs
 
 returns-4 : tie.Need-returns-4
 returns-4 c =
-    let wait = told (waits (c .before .before .before .before .before .before .before .before .before .before .before .before)) (c .before .before .undo-waits .ensures) (c .before .before .before .before .before .before .before .before .before .before .before .sort-of .ensures) (c .before .if4 .taken) in
+    let wait = told (waits (c .before .before .before .before .before .before .before .before .before .before .before .before)) (c .before .before .undo-waits .ensures) (c .before .before .before .before .before .before .before .before .before .before .sort-of .ensures) (c .before .if4 .taken) in
     rw (known (c .before .before .before .before .before .before .before .before), no-saga (c .before .before .before .before .before .before), active (c .before .before .before), wait) (c .refused4 .ensures)
 
 refused-requires-5 : tie.Need-refused-requires-5
@@ -122,9 +127,9 @@ pub operation-spec : {M : Type 1} → statement M
 operation-spec =
     tie.close
     (tie.spec
+    object-count-requires
     sort-of-requires
     is-known-requires
-    is-object-requires
     refused-requires
     returns
     is-saga-requires

@@ -7,8 +7,8 @@ use borrow.Author.Needs.{needs}
 use Rattle.listing.proofs.later_line.Statement.{statement}
 use Rattle.listing.proofs.later_line.Tie as tie
 
-transactions-listed-requires : tie.Need-transactions-listed-requires
-transactions-listed-requires c κs = search needs
+transaction-count-requires : tie.Need-transaction-count-requires
+transaction-count-requires c κs = search needs
 
 transaction-line-requires : tie.Need-transaction-line-requires
 transaction-line-requires c κs = search needs
@@ -16,7 +16,7 @@ transaction-line-requires c κs = search needs
 returns : tie.Need-returns
 returns c =
     let a = c .before .before .before .before .before .before .args in
-    let t = c .before .before .transactions-listed in
+    let t = c .before .before .transaction-count in
     c .transaction-line .ensures ∙ ap (withAll []) (sym (later-transaction (a .reading) (a .k) (t .result) (t .ensures) (omega arith)))
 
 size-requires : tie.Need-size-requires
@@ -34,7 +34,7 @@ operation-line-requires c κs = search needs
 returns-2 : tie.Need-returns-2
 returns-2 c =
     let a = c .before .before .before .before .before .before .before .before .before .args in
-    let t = c .before .before .before .before .before .transactions-listed in
+    let t = c .before .before .before .before .before .transaction-count in
     let o = c .before .before .before .size in
     c .operation-line .ensures
     ∙ ap (withAll []) (sym (later-operation (a .reading) (a .k) (t .result) (t .ensures) (o .result) (o .ensures) (omega arith) (omega arith)))
@@ -45,7 +45,7 @@ saga-line-requires c κs = search needs
 returns-3 : tie.Need-returns-3
 returns-3 c =
     let a = c .before .before .before .before .before .before .before .before .args in
-    let t = c .before .before .before .before .transactions-listed in
+    let t = c .before .before .before .before .transaction-count in
     let o = c .before .before .size in
     c .saga-line .ensures
     ∙ ap (withAll []) (sym (later-saga (a .reading) (a .k) (t .result) (t .ensures) (o .result) (o .ensures) (omega arith) (omega arith)))
@@ -54,7 +54,7 @@ pub later-line-spec : {M : Type 1} → statement M
 later-line-spec =
     tie.close
     (tie.spec
-    transactions-listed-requires
+    transaction-count-requires
     transaction-line-requires
     returns
     size-requires

@@ -3,14 +3,14 @@ use borrow.Author.Needs.{needs}
 use Rattle.listing.proofs.line_count.Statement.{statement}
 use Rattle.listing.proofs.line_count.Tie as tie
 
-transactions-listed-requires : tie.Need-transactions-listed-requires
-transactions-listed-requires c κs = search needs
+transaction-count-requires : tie.Need-transaction-count-requires
+transaction-count-requires c κs = search needs
 
 size-requires : tie.Need-size-requires
 size-requires c κs = search needs
 
-sagas-listed-requires : tie.Need-sagas-listed-requires
-sagas-listed-requires c κs = search needs
+saga-count-requires : tie.Need-saga-count-requires
+saga-count-requires c κs = search needs
 
 add-result : tie.Need-add-result
 add-result c = search needs
@@ -29,9 +29,9 @@ pub line-count-spec : {M : Type 1} → statement M
 line-count-spec =
     tie.close
     (tie.spec
-    transactions-listed-requires
+    transaction-count-requires
     size-requires
-    sagas-listed-requires
+    saga-count-requires
     add-result
     add-result-2
     add-result-3

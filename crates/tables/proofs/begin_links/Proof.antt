@@ -30,17 +30,20 @@ zeros d =
 
 -- the first i entries are in the sets
 abbrev Inv-loop : tie.InvT-loop
-Inv-loop tables declared n links₀ i₀ links i = (i ≤ n) × (n ≡ min (tables .declared) mostDependencies) × (length links ≡ mostTransactions) × Holds links (linkedBy tables i)
+Inv-loop tables n links₀ i₀ links i = (i ≤ n) × (n ≡ min (tables .declared) mostDependencies) × (length links ≡ mostTransactions) × Holds links (linkedBy tables i)
 
 abbrev μ-loop : tie.MeasureT-loop
-μ-loop tables declared n links₀ i₀ links i = n - i
+μ-loop tables n links₀ i₀ links i = n - i
 
 -- after a turn
 abbrev Kept : Tables → ℕ → List ℕ → Type 0
 Kept tables i links = (length links ≡ mostTransactions) × Holds links (linkedBy tables (i + 1))
 
+dependency-count-requires : tie.Need-dependency-count-requires Inv-loop μ-loop
+dependency-count-requires c κs = search needs
+
 loop-holds : tie.Need-loop-holds Inv-loop μ-loop
-loop-holds c = (omega arith, ⊎-elim (λ w. omega arith) (λ w. omega arith) (c .if1 .came), refl, links-none (c .before .args .t1) (replicate mostTransactions 0) zeros)
+loop-holds c = (omega arith, c .dependency-count .ensures, refl, links-none (c .before .args .t1) (replicate mostTransactions 0) zeros)
 
 mul-x : tie.Need-mul-x Inv-loop μ-loop
 mul-x c = search needs
@@ -61,11 +64,11 @@ mul-others : tie.Need-mul-others Inv-loop μ-loop
 mul-others c = search needs
 
 -- where the test held, the dependent is a transaction
-low : (c : tie.Then2 Inv-loop μ-loop)
+low : (c : tie.Then1 Inv-loop μ-loop)
     → dependencyAt (c .before .before .before .before .before .before .before .before .args .t1) (c .before .before .before .before .before .before .loop .i) .dependent < mostTransactions
 low c =
     let x = dependencyAt (c .before .before .before .before .before .before .before .before .args .t1) (c .before .before .before .before .before .before .loop .i) in
-    ltb-true (x .dependent) mostTransactions (on-and (c .before .is-begin-kind .result) (ltb (x .dependent) mostTransactions) (c .if2 .taken) .1)
+    ltb-true (x .dependent) mostTransactions (on-and (c .before .is-begin-kind .result) (ltb (x .dependent) mostTransactions) (c .if1 .taken) .1)
 
 array-read-others : tie.Need-array-read-others Inv-loop μ-loop
 array-read-others c = low c
@@ -97,7 +100,7 @@ loop-again c =
     (λ w. subst⁻¹ (Kept tables (l .i)) (w .2 ∙ ap (set (l .links) (x .dependent)) (w .1 .ensures))
     (length-set (l .links) (x .dependent) _ ∙ l .inv .2, links-in tables (l .i) (l .links) (l .inv .3) (l .inv .2) (sym told ∙ w .0 .taken)))
     (λ w. subst⁻¹ (Kept tables (l .i)) (w .1) (l .inv .2, links-out tables (l .i) (l .links) (l .inv .3) (sym told ∙ w .0 .left)))
-    (c .if2 .came) in
+    (c .if1 .came) in
     (omega arith, l .inv .1, both .0, both .1)
 
 returns : tie.Need-returns Inv-loop μ-loop
@@ -109,6 +112,7 @@ begin-links-spec =
     (tie.spec
     Inv-loop
     μ-loop
+    dependency-count-requires
     loop-holds
     mul-x
     element-copy-out-x

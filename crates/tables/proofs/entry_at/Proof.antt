@@ -1,100 +1,48 @@
-use mathlib.Core.Path.{sym, _∙_}
 use denote.Ref.{now}
-use Rattle.tables.proofs.ReadingLaws.{entry1, entry2, entry3, entry4}
+use Rattle.tables.proofs.ReadingLaws.{entry-declares, entry-stops}
 use borrow.Author.Needs.{needs}
 use Rattle.tables.proofs.entry_at.Statement.{statement}
 use Rattle.tables.proofs.entry_at.Tie as tie
 
-field-at-requires : tie.Need-field-at-requires
-field-at-requires c κs = search needs
+read-requires : tie.Need-read-requires
+read-requires c κs = search needs
 
-enum-known-f : tie.Need-enum-known-f
-enum-known-f c = search needs
+enum-known-end : tie.Need-enum-known-end
+enum-known-end c = search needs
 
-enum-told : tie.Need-enum-told
-enum-told c = search needs
+array-read-t13 : tie.Need-array-read-t13
+array-read-t13 c = search needs
 
-stopped-entry-requires : tie.Need-stopped-entry-requires
-stopped-entry-requires c κs = search needs
+array-read-t16 : tie.Need-array-read-t16
+array-read-t16 c = search needs
+
+array-read-t19 : tie.Need-array-read-t19
+array-read-t19 c = search needs
+
+enum-known-end-2 : tie.Need-enum-known-end-2
+enum-known-end-2 c = search needs
 
 returns : tie.Need-returns
 returns c =
-    let a = c .before .before .before .before .before .args in
-    let n = c .before .before .before .field-at in
-    c .stopped-entry .ensures
-    ∙ entry1 (a .most) (now (a .book)) (a .at) (n .result) _ _ (n .ensures) (c .before .enum-told .given .1)
-
-field-at-requires-2 : tie.Need-field-at-requires-2
-field-at-requires-2 c κs = search needs
-
-enum-known-g : tie.Need-enum-known-g
-enum-known-g c = search needs
-
-enum-told-2 : tie.Need-enum-told-2
-enum-told-2 c = search needs
-
-stopped-entry-requires-2 : tie.Need-stopped-entry-requires-2
-stopped-entry-requires-2 c κs = search needs
+    let a = c .before .before .before .before .before .before .args in
+    let r = c .before .before .before .before .read in
+    entry-declares (a .most) (now (a .book)) (a .at) (r .result) (r .ensures) _ _ (c .before .end .given .1)
 
 returns-2 : tie.Need-returns-2
 returns-2 c =
-    let k = c .before .before .before .before in
-    let a = k .before .before .before .before .before .args in
-    let first = sym (k .before .before .before .field-at .ensures) ∙ k .before .f .given .1 in
-    let n = c .before .before .before .field-at2 in
-    c .stopped-entry2 .ensures
-    ∙ entry2 (a .most) (now (a .book)) (a .at) _ _ first (n .result) _ _ (n .ensures) (c .before .enum-told2 .given .1)
-
-field-at-requires-3 : tie.Need-field-at-requires-3
-field-at-requires-3 c κs = search needs
-
-enum-known-h : tie.Need-enum-known-h
-enum-known-h c = search needs
-
-enum-told-3 : tie.Need-enum-told-3
-enum-told-3 c = search needs
-
-stopped-entry-requires-3 : tie.Need-stopped-entry-requires-3
-stopped-entry-requires-3 c κs = search needs
-
-returns-3 : tie.Need-returns-3
-returns-3 c =
-    let j = c .before .before .before .before in
-    let k = j .before .before .before .before in
-    let a = k .before .before .before .before .before .args in
-    let first = sym (k .before .before .before .field-at .ensures) ∙ k .before .f .given .1 in
-    let second = sym (j .before .before .before .field-at2 .ensures) ∙ j .before .g .given .1 in
-    let n = c .before .before .before .field-at3 in
-    c .stopped-entry3 .ensures
-    ∙ entry3 (a .most) (now (a .book)) (a .at) _ _ first _ _ second (n .result) _ _ (n .ensures) (c .before .enum-told3 .given .1)
-
-returns-4 : tie.Need-returns-4
-returns-4 c =
-    let j = c .before .before .before .before in
-    let k = j .before .before .before .before in
-    let a = k .before .before .before .before .before .args in
-    let first = sym (k .before .before .before .field-at .ensures) ∙ k .before .f .given .1 in
-    let second = sym (j .before .before .before .field-at2 .ensures) ∙ j .before .g .given .1 in
-    let third = sym (c .before .before .before .field-at3 .ensures) ∙ c .before .h .given .1 in
-    entry4 (a .most) (now (a .book)) (a .at) _ _ first _ _ second _ _ third
+    let a = c .before .before .before .before .before .before .args in
+    let r = c .before .before .before .before .read in
+    entry-stops (a .most) (now (a .book)) (a .at) (r .result) (r .ensures) _ _ (c .before .end2 .given .1)
 
 pub entry-at-spec : {M : Type 1} → statement M
 entry-at-spec =
     tie.close
     (tie.spec
-    field-at-requires
-    enum-known-f
-    enum-told
-    stopped-entry-requires
+    read-requires
+    enum-known-end
+    array-read-t13
+    array-read-t16
+    array-read-t19
+    enum-known-end-2
     returns
-    field-at-requires-2
-    enum-known-g
-    enum-told-2
-    stopped-entry-requires-2
-    returns-2
-    field-at-requires-3
-    enum-known-h
-    enum-told-3
-    stopped-entry-requires-3
-    returns-3
-    returns-4)
+    returns-2)

@@ -4,18 +4,18 @@ use Prim.Native.Nat.{_-_, _≤_}
 use denote.Ref.{now}
 use Rattle.terms.specs.Limits.{mostTransactions, mostDependencies}
 use Rattle.terms.specs.declared.Refusal.the-variants.{BadCount}
-use Rattle.tables.specs.Reading.{unlessStuck}
-use Rattle.tables.proofs.FieldLaws.{within-range}
+use Rattle.number.proofs.FieldLaws.{within-range}
+use Rattle.tables.specs.Reading.{unlessCircle}
 use Rattle.tables.proofs.ReadingLaws.{rest1, rest2, rest3, rest4}
 use borrow.Author.Needs.{needs}
 use Rattle.tables.proofs.rest_from.Statement.{statement}
 use Rattle.tables.proofs.rest_from.Tie as tie
 
-sub-field-within : tie.Need-sub-field-within
-sub-field-within c = search needs
+sub-within : tie.Need-sub-within
+sub-within c = search needs
 
-field-within-requires : tie.Need-field-within-requires
-field-within-requires c κs = search needs
+within-requires : tie.Need-within-requires
+within-requires c κs = search needs
 
 enum-known-f : tie.Need-enum-known-f
 enum-known-f c = search needs
@@ -29,12 +29,12 @@ stopped-by-field-requires c κs = search needs
 returns : tie.Need-returns
 returns c =
     let a = c .before .before .before .before .before .args in
-    let n = c .before .before .before .field-within in
+    let n = c .before .before .before .within in
     c .stopped-by-field .ensures
     ∙ rest1 (a .circles) (a .most) (now (a .book)) (a .at) (a .sum) (a .tables) (n .result) _ _ (n .ensures) (c .before .enum-told .given .1)
 
-field-within-requires-2 : tie.Need-field-within-requires-2
-field-within-requires-2 c κs = search needs
+within-requires-2 : tie.Need-within-requires-2
+within-requires-2 c κs = search needs
 
 enum-known-g : tie.Need-enum-known-g
 enum-known-g c = search needs
@@ -49,13 +49,13 @@ returns-2 : tie.Need-returns-2
 returns-2 c =
     let k = c .before .before .before .before in
     let a = k .before .before .before .before .before .args in
-    let first = sym (k .before .before .before .field-within .ensures) ∙ k .before .f .given .1 in
-    let n = c .before .before .before .field-within2 in
+    let first = sym (k .before .before .before .within .ensures) ∙ k .before .f .given .1 in
+    let n = c .before .before .before .within2 in
     c .stopped-by-field2 .ensures
     ∙ rest2 (a .circles) (a .most) (now (a .book)) (a .at) (a .sum) (a .tables) _ _ first (n .result) _ _ (n .ensures) (c .before .enum-told2 .given .1)
 
-field-within-requires-3 : tie.Need-field-within-requires-3
-field-within-requires-3 c κs = search needs
+within-requires-3 : tie.Need-within-requires-3
+within-requires-3 c κs = search needs
 
 enum-known-h : tie.Need-enum-known-h
 enum-known-h c = search needs
@@ -71,9 +71,9 @@ returns-3 c =
     let j = c .before .before .before .before in
     let k = j .before .before .before .before in
     let a = k .before .before .before .before .before .args in
-    let first = sym (k .before .before .before .field-within .ensures) ∙ k .before .f .given .1 in
-    let second = sym (j .before .before .before .field-within2 .ensures) ∙ j .before .g .given .1 in
-    let n = c .before .before .before .field-within3 in
+    let first = sym (k .before .before .before .within .ensures) ∙ k .before .f .given .1 in
+    let second = sym (j .before .before .before .within2 .ensures) ∙ j .before .g .given .1 in
+    let n = c .before .before .before .within3 in
     c .stopped-by-field3 .ensures
     ∙ rest3 (a .circles) (a .most) (now (a .book)) (a .at) (a .sum) (a .tables) _ _ first _ _ second (n .result) _ _ (n .ensures) (c .before .enum-told3 .given .1)
 
@@ -81,7 +81,7 @@ add-n : tie.Need-add-n
 add-n c =
     let k = c .before .before .before .before .before .before .before .before in
     let a = k .before .before .before .before .before .args in
-    let first = sym (k .before .before .before .field-within .ensures) ∙ k .before .f .given .1 in
+    let first = sym (k .before .before .before .within .ensures) ∙ k .before .f .given .1 in
     let r = within-range (a .most) (now (a .book)) (a .at) 0 (mostTransactions - a .sum) BadCount _ _ first in
     let l : a .sum ≤ mostTransactions = k .before .before .before .before .before .pre .0 in
     omega (arith, r .1)
@@ -90,9 +90,9 @@ dependencies-from-requires : tie.Need-dependencies-from-requires
 dependencies-from-requires c κs =
     let k = c .before .before .before .before .before .before .before .before in
     let a = k .before .before .before .before .before .args in
-    let first = sym (k .before .before .before .field-within .ensures) ∙ k .before .f .given .1 in
+    let first = sym (k .before .before .before .within .ensures) ∙ k .before .f .given .1 in
     let r = within-range (a .most) (now (a .book)) (a .at) 0 (mostTransactions - a .sum) BadCount _ _ first in
-    let third = sym (c .before .before .before .field-within3 .ensures) ∙ c .before .h .given .1 in
+    let third = sym (c .before .before .before .within3 .ensures) ∙ c .before .h .given .1 in
     let q = within-range (a .most) (now (a .book)) _ 0 mostDependencies BadCount _ _ third in
     let pre = k .before .before .before .before .before .pre in
     let l : a .sum ≤ mostTransactions = pre .0 in (
@@ -100,8 +100,8 @@ dependencies-from-requires c κs =
       (omega (arith, r .1), pre .1),
     )
 
-unless-stuck-requires : tie.Need-unless-stuck-requires
-unless-stuck-requires c κs = search needs
+unless-circle-requires : tie.Need-unless-circle-requires
+unless-circle-requires c κs = search needs
 
 returns-4 : tie.Need-returns-4
 returns-4 c =
@@ -110,34 +110,34 @@ returns-4 c =
     let j = i .before .before .before .before in
     let k = j .before .before .before .before in
     let a = k .before .before .before .before .before .args in
-    let first = sym (k .before .before .before .field-within .ensures) ∙ k .before .f .given .1 in
-    let second = sym (j .before .before .before .field-within2 .ensures) ∙ j .before .g .given .1 in
-    let third = sym (i .before .before .before .field-within3 .ensures) ∙ i .before .h .given .1 in
-    c .unless-stuck .ensures
-    ∙ ap (unlessStuck (a .circles) _) (d .dependencies-from .ensures)
+    let first = sym (k .before .before .before .within .ensures) ∙ k .before .f .given .1 in
+    let second = sym (j .before .before .before .within2 .ensures) ∙ j .before .g .given .1 in
+    let third = sym (i .before .before .before .within3 .ensures) ∙ i .before .h .given .1 in
+    c .unless-circle .ensures
+    ∙ ap (unlessCircle (a .circles) _) (d .dependencies-from .ensures)
     ∙ rest4 (a .circles) (a .most) (now (a .book)) (a .at) (a .sum) (a .tables) _ _ first _ _ second _ _ third
 
 pub rest-from-spec : {M : Type 1} → statement M
 rest-from-spec =
     tie.close
     (tie.spec
-    sub-field-within
-    field-within-requires
+    sub-within
+    within-requires
     enum-known-f
     enum-told
     stopped-by-field-requires
     returns
-    field-within-requires-2
+    within-requires-2
     enum-known-g
     enum-told-2
     stopped-by-field-requires-2
     returns-2
-    field-within-requires-3
+    within-requires-3
     enum-known-h
     enum-told-3
     stopped-by-field-requires-3
     returns-3
     add-n
     dependencies-from-requires
-    unless-stuck-requires
+    unless-circle-requires
     returns-4)

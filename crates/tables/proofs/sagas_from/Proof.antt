@@ -6,10 +6,11 @@ use native.Mathlib.Nat.{sub-zero}
 use denote.Ref.{now}
 use Rattle.terms.specs.Limits.{mostSteps, mostTransactions}
 use Rattle.terms.specs.declared.Refusal.the-variants.{BadCount}
-use Rattle.tables.specs.declared.Counted.the-variants.{Within, Stop}
+use Rattle.number.specs.declared.Field.the-variants.{Value, Fault}
+use Rattle.number.specs.Number.{numberWithin}
+use Rattle.number.proofs.FieldLaws.{within-range}
 use Rattle.tables.specs.declared.Tables.{Tables}
-use Rattle.tables.specs.Reading.{emptyTables, fieldWithin, sagasFrom}
-use Rattle.tables.proofs.FieldLaws.{within-range}
+use Rattle.tables.specs.Reading.{emptyTables, sagasFrom}
 use Rattle.tables.proofs.ReadingLaws.{sagas-none, sagas-end, sagas-stop, sagas-large, sagas-more}
 use Rattle.tables.proofs.sagas_from.Statement.{statement}
 use Rattle.tables.proofs.sagas_from.Tie as tie
@@ -24,10 +25,10 @@ abbrev μ-loop : tie.MeasureT-loop
 
 -- in a turn, once the field is known to be within its range
 read : (c : tie.After-known-told Inv-loop μ-loop)
-    → fieldWithin (c .before .before .before .before .before .before .before .before .args .most)
+    → numberWithin (c .before .before .before .before .before .before .before .before .args .most)
     (now (c .before .before .before .before .before .before .before .before .args .book)) (c .before .before .before .before .before .loop .at) 1 mostSteps BadCount
-    ≡ Within (c .before .f .given .0 .0) (c .before .f .given .0 .1 .0)
-read c = sym (c .before .before .before .field-within .ensures) ∙ c .before .f .given .1
+    ≡ Value (c .before .f .given .0 .0) (c .before .f .given .0 .1 .0)
+read c = sym (c .before .before .before .within .ensures) ∙ c .before .f .given .1
 
 range : (c : tie.After-known-told Inv-loop μ-loop) → (1 ≤ c .before .f .given .0 .0) × (c .before .f .given .0 .0 ≤ mostSteps)
 range c = let r = within-range _ _ _ 1 mostSteps BadCount _ _ (read c) in (r .0, r .1)
@@ -44,8 +45,8 @@ loop-holds c =
       rw (sub-zero) (ap (sagasFrom (a .most) (now (a .book)) (a .count) (a .start) 0) (sym (c .empty .ensures))),
     )
 
-field-within-requires : tie.Need-field-within-requires Inv-loop μ-loop
-field-within-requires c κs = search needs
+within-requires : tie.Need-within-requires Inv-loop μ-loop
+within-requires c κs = search needs
 
 enum-known-f : tie.Need-enum-known-f Inv-loop μ-loop
 enum-known-f c = search needs
@@ -62,7 +63,7 @@ returns c =
     let l = b .before .before .loop in
     let a = b .before .before .before .before .before .args in
     let told = c .before .enum-told .given in
-    let at-field : fieldWithin (a .most) (now (a .book)) (l .at) 1 mostSteps BadCount ≡ Stop _ _ = sym (b .field-within .ensures) ∙ told .1 in
+    let at-field : numberWithin (a .most) (now (a .book)) (l .at) 1 mostSteps BadCount ≡ Fault _ _ = sym (b .within .ensures) ∙ told .1 in
     (λ i. record { answer = told .1 i; tables = c .empty2 .ensures i })
     ∙ sym (l .inv .3 ∙ sagas-stop (a .most) (now (a .book)) (l .at) (l .sum) (l .tables) (a .count - l .i) (a .count - (l .i + 1)) (omega arith) _ _ at-field)
 
@@ -80,7 +81,7 @@ returns-2 c =
     let k = c .before .before in
     let l = k .before .before .before .before .before .loop in
     let a = k .before .before .before .before .before .before .before .before .args in
-    ap (λ (t : Tables). record { answer = Stop BadCount (l .at); tables = t }) (c .empty3 .ensures)
+    ap (λ (t : Tables). record { answer = Fault BadCount (l .at); tables = t }) (c .empty3 .ensures)
     ∙ sym (l .inv .3 ∙ sagas-large (a .most) (now (a .book)) (l .at) (l .sum) (l .tables) (a .count - l .i) (a .count - (l .i + 1)) (omega arith) _ _ (read k) (omega arith))
 
 cast-tables : tie.Need-cast-tables Inv-loop μ-loop
@@ -120,7 +121,7 @@ sagas-from-spec =
     μ-loop
     empty-requires
     loop-holds
-    field-within-requires
+    within-requires
     enum-known-f
     enum-told
     empty-requires-2

@@ -6,9 +6,8 @@ use mathlib.Core.Bool.{Bool}
 use Prim.Native.Nat.{ℕ, _-_, _≤_}
 use Rattle.terms.specs.Limits.{mostTransactions}
 use Rattle.sets.specs.Sets.{setOf}
-use Rattle.sets.proofs.SetLaws.{set-of-none}
+use Rattle.sets.proofs.SetLaws.{set-of-none, set-of-in, set-of-out}
 use Rattle.tables.specs.Sorts.{sortOf, isUndo, undosOf}
-use Rattle.sets.proofs.SetLaws.{set-of-in, set-of-out}
 use Rattle.tables.proofs.undos.Statement.{statement}
 use Rattle.tables.proofs.undos.Tie as tie
 

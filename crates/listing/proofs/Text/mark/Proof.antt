@@ -1,5 +1,5 @@
 use mathlib.Core.Path.{_∙_, ap, sym}
-use Rattle.ties.specs.declared.Mark.{Mark}
+use Rattle.terms.specs.declared.Mark.{Mark}
 use Rattle.listing.specs.Texts.{textOf, withAll}
 use Rattle.listing.specs.Lines.{markWord}
 use borrow.Author.Needs.{needs}

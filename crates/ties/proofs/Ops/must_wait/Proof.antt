@@ -5,7 +5,7 @@ use mathlib.Core.Path.{_≡_}
 use mathlib.Core.Bool.{Bool, false}
 use Rattle.laws.specs.Index.{anyBelow}
 use Rattle.laws.proofs.IndexLaws.{any-none, search-hit, search-miss, search-end}
-use Rattle.ties.specs.declared.Mark.{Mark}
+use Rattle.terms.specs.declared.Mark.{Mark}
 use Rattle.ties.specs.declared.Ops.{Ops}
 use Rattle.ties.specs.Operations.{opAt, size}
 use Rattle.ties.specs.Ties.{waitsFor, mustWait}

@@ -1,0 +1,50 @@
+-- The promises of judging, proved.
+use Prim.Native.Nat.{ℕ}
+use mathlib.Core.Path.{_≡_, refl, sym, subst, _∙_}
+use mathlib.Core.List.{List}
+use mathlib.Core.Bool.{true}
+use borrow.Author.Tests.{lt-ltb}
+use Rattle.ties.specs.Operations.{allHeldBy, endedAs, opAt, size}
+use Rattle.ties.specs.declared.Fate.{Fate}
+use Rattle.ties.specs.declared.Fate.the-variants.{Aborted as FateAborted, Committed as FateCommitted}
+use Rattle.ties.proofs.OpsLaws.{rewritten-at}
+use Rattle.tables.specs.declared.Tables.{Tables}
+use Rattle.histories.specs.Histories.{reached}
+use Rattle.judge.specs.Judge.{stateAfter}
+use Rattle.histories.specs.Promises.{AnyRun, EndsWith, JudgePromises}
+use Rattle.judge.specs.States.{isActive, phaseOf}
+use Rattle.judge.specs.declared.Change.the-variants.{Ends}
+use Rattle.terms.specs.declared.Event.{Event}
+use Rattle.terms.specs.declared.Event.the-variants.{Abort, Commit}
+use Rattle.judge.specs.declared.Phase.{Phase}
+use Rattle.judge.specs.declared.Phase.the-variants.{Aborted, Committed}
+use Rattle.judge.specs.declared.State.{State}
+use Rattle.histories.proofs.CircleIdle.{never-begins}
+use Rattle.histories.proofs.Invariants.{lasting}
+use Rattle.judge.proofs.PhaseLaws.{code, of-active}
+use Rattle.histories.proofs.Responsible.{responsible-told}
+use Rattle.histories.proofs.RunLaws.{next-ok, one-event}
+use Rattle.histories.proofs.Singles.{ended-alone}
+use Rattle.histories.proofs.TiesMean.{ties-mean}
+
+ends-with : (s : State) (t : ℕ) (phase : Phase) (fate : Fate) → EndsWith s (stateAfter (Ends t phase fate) s) t fate
+unfolding stateAfter
+ends-with s t phase fate q l = rewritten-at (allHeldBy t) (endedAs fate (size (s .ops))) (λ k. refl) (s .ops) q ∙ rw (lt-ltb q (size (s .ops)) l)
+
+any-run : (tables : Tables) (es : List Event) → AnyRun tables es
+any-run tables es =
+    record {
+      responsible = responsible-told tables es;
+      ties = ties-mean tables es;
+      active = λ q l a. is-active (phaseOf (reached tables es .transactions) (opAt (reached tables es .ops) q .responsible)) (lasting tables es .active q a);
+      commits = λ t v. subst (λ (x : State). EndsWith (reached tables es) x t FateCommitted) (sym (next-ok tables (reached tables es) (Commit t) v))
+          (ends-with (reached tables es) t Committed FateCommitted);
+      aborts = λ t v. subst (λ (x : State). EndsWith (reached tables es) x t FateAborted) (sym (next-ok tables (reached tables es) (Abort t) v))
+          (ends-with (reached tables es) t Aborted FateAborted);
+    }
+  where
+    is-active : (p : Phase) → code p ≡ 1 → isActive p ≡ true
+    is-active p e = rw (of-active p e)
+
+pub judge-promises : JudgePromises
+judge-promises = record { one-event = one-event; ended-alone = ended-alone; any-run = any-run; never-begins = λ tables es t w. never-begins tables es t w }

@@ -1,0 +1,3 @@
+-- The proved cases and the worked listing, by computation.
+pub mod CasesHold
+pub mod ListedHolds

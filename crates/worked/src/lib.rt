@@ -1,0 +1,1 @@
+// The proved cases and the worked listing: no code, only what stands on the whole house.
