@@ -77,6 +77,36 @@ fn sagas() -> Vec<u8> {
     book
 }
 
+/// 15 undos at work (a 16th would leave no number for a plain transaction), each after a change that 60 has kept and before one of 62;
+/// 63 writes until 250 operations are made, and then one write goes to and fro between 60 and 61 until the book is full.
+fn undos() -> Vec<u8> {
+    let mut book = vec![1, 15];
+    book.extend([2; 15]);
+    book.extend([4, 32, 0]);
+    (60..64).for_each(|t| begin(&mut book, t));
+    for saga in 0..15 {
+        let first = 4 * saga;
+        begin(&mut book, first);
+        begin(&mut book, first + 1);
+        commit(&mut book, first + 1);
+        book.extend([3, first]);
+        write(&mut book, 60, saga);
+        book.extend([6, 60, 3 * saga]);
+        begin(&mut book, first + 3);
+        write(&mut book, first + 3, saga);
+        write(&mut book, 62, saga);
+    }
+    let handed = 45;
+    write(&mut book, 60, 20);
+    (handed + 1..250).for_each(|_| write(&mut book, 63, 21));
+    let (mut giver, mut receiver) = (60, 61);
+    while book.len() + 4 <= MOST {
+        book.extend([5, giver, receiver, handed]);
+        (giver, receiver) = (receiver, giver);
+    }
+    book
+}
+
 /// The book of the listing's example.
 fn listed() -> Vec<u8> {
     vec![
@@ -93,6 +123,7 @@ pub extern "C" fn main(_count: i32, _words: *const *const u8) -> i32 {
         ("listed", listed()),
         ("ring", ring()),
         ("sagas", sagas()),
+        ("undos", undos()),
     ];
     for (name, book) in books {
         fs::write(Path::new(&folder).join(name), book).expect("a folder to write to");

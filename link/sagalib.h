@@ -44,7 +44,8 @@ enum saga_refusal {
   SAGA_FULL = 18,            /* 256 operations accepted already */
   SAGA_NO_ROOM = 19,         /* lent room too small */
   SAGA_ALREADY_ENDED = 20,   /* operation already ended */
-  SAGA_NEVER_MOVES = 21      /* tables that can never move */
+  SAGA_NEVER_MOVES = 21,     /* tables that can never move */
+  SAGA_UNDO_ON_RING = 22     /* operation or delegation that would put an active undo on a ring */
 };
 
 /* The answer of every function that can refuse: always the same four numbers. */

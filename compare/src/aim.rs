@@ -5,6 +5,7 @@ use crate::model::{Circumstance, Model, Phase};
 use crate::random::Random;
 use crate::story::{full_story, wild_event, Story};
 use crate::tables::{plain_numbers, tables_for};
+use crate::undoing::story_around_an_undo;
 
 /// How many stories are tried until an aim is given up.
 const ATTEMPTS: usize = 6;
@@ -19,10 +20,12 @@ pub fn story_aimed_at(random: &mut Random, number: u8) -> Option<Story> {
             16 if random.one_in(2) => story_with_ring(random)?,
             17 => story_with_active_undo(random)?,
             18 => full_story(random, 5)?,
+            22 => story_around_an_undo(random)?,
             _ => story_to_go_wrong(random, number),
         };
         let (place, event) = match number {
             13..=16 => chance_on_the_way(random, &story, number)?,
+            22 => chance_to_bar_an_undo(random, &story)?,
             _ => chance_at_the_end(random, &story, number)?,
         };
         story.draft.events.truncate(place);
@@ -201,6 +204,28 @@ fn chance_on_the_way(random: &mut Random, story: &Story, number: u8) -> Option<C
     chances.pick(random)
 }
 
+/// A chance to close a ring around an active undo after the last event, by any
+/// operation or by handing some operation on, if there is one.
+fn chance_to_bar_an_undo(random: &mut Random, story: &Story) -> Option<Chance> {
+    let model = &story.model;
+    let mut chances = Chances::default();
+    let mut consider = |event| chances.consider(model, 22, (story.draft.events.len(), event));
+    for t in model.active_operating() {
+        for object in 0..model.objects {
+            for mark in [0, 1] {
+                consider(Event::Operation(t as u16, object, mark));
+            }
+        }
+    }
+    for _ in 0..60 {
+        let operation = random.below(model.operations.len());
+        let giver = model.operations[operation].responsible as u16;
+        let receiver = random.pick(&model.active_delegating()) as u16;
+        consider(Event::Delegate(giver, receiver, operation as u16));
+    }
+    chances.pick(random)
+}
+
 /// The commit of some single operation by the one that answers for it.
 fn wrongly_kept(random: &mut Random, model: &Model) -> Option<Event> {
     let own = model.operations_to_end_alone();
@@ -247,7 +272,7 @@ mod tests {
 
     #[test]
     fn the_last_event_is_refused_as_meant_in_many_ways() {
-        for number in (8..=18).chain([20]) {
+        for number in (8..=18).chain([20, 22]) {
             let mut ways = Vec::new();
             for index in 0..60 {
                 let random = &mut Random::new(number.into(), index);
@@ -268,6 +293,7 @@ mod tests {
             let expected = match number {
                 13 => 15,
                 9 | 11 | 14 | 15 => 8,
+                22 => 6,
                 12 | 16 | 20 => 4,
                 _ => 1,
             };

@@ -196,7 +196,7 @@ fn fixed_case(line: &str) -> Option<Case> {
     }
 }
 
-fn numbers<'a, N: Clone>(
+fn numbers<'a, N: Copy>(
     words: impl Iterator<Item = &'a str>,
     number: impl Fn(&str) -> Option<N>,
 ) -> Option<Vec<N>> {
@@ -204,15 +204,14 @@ fn numbers<'a, N: Clone>(
     for word in words {
         match word.strip_prefix('x') {
             Some(count) => {
-                front.append(&mut part);
+                front.extend(part.repeat(times));
+                part.clear();
                 times = count.parse().ok()?;
             }
             None => part.push(number(word)?),
         }
     }
-    for _ in 0..times {
-        front.extend_from_slice(&part);
-    }
+    front.extend(part.repeat(times));
     Some(front)
 }
 
@@ -222,13 +221,14 @@ mod tests {
 
     #[test]
     fn a_line_of_the_fixed_cases() {
-        let cases = fixed("# not this\n\nb 01 x2 0A /3\nw 7 300\nc 01 x2 FF\n").unwrap();
+        let text = "# not this\n\nb 01 x2 0A /3\nw 7 300\nc 01 x2 FF x1 03 04\n";
+        let cases = fixed(text).unwrap();
         assert_eq!(
             cases,
             [
                 Case::Book(vec![1, 10, 10], 3),
                 Case::Fields(vec![7, 300], MOST_ROOM),
-                Case::CirclesBook(vec![1, 255, 255])
+                Case::CirclesBook(vec![1, 255, 255, 3, 4])
             ]
         );
     }

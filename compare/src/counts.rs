@@ -1,11 +1,13 @@
 //! How often each kind of book was made, and how often each refusal came up.
 
+use crate::barred::Barred;
 use crate::books::Made;
+use crate::replay::replay;
 use crate::singles::Singles;
 use std::collections::BTreeMap;
 use std::fmt;
 
-const HIGHEST_OF_READING: usize = 21;
+const HIGHEST_OF_READING: usize = 22;
 /// The lent room is too small: reading never comes to that.
 const NEVER_OF_READING: usize = 19;
 /// So many books must bring up every refusal.
@@ -21,6 +23,7 @@ pub struct Counts {
     /// What reading with circles permitted comes to, for books refused by 21.
     circles_numbers: BTreeMap<u8, u64>,
     singles: Singles,
+    barred: Barred,
 }
 
 /// The refusals that reading can come to.
@@ -36,7 +39,10 @@ impl Counts {
         self.events += reading.events as u64;
         *self.kinds.entry(made.kind).or_default() += 1;
         self.numbers[usize::from(reading.number)] += 1;
-        self.singles.count(&made.bytes, &reading);
+        replay(&made.bytes, &reading, |model, event, number| {
+            self.singles.count(model, event, number);
+            self.barred.count(model, event, number);
+        });
         if reading.number == second::refusal::NEVER_MOVES {
             let circles_number = second::read_circles_permitted(&made.bytes).number;
             *self.circles_numbers.entry(circles_number).or_default() += 1;
@@ -71,7 +77,7 @@ impl fmt::Display for Counts {
                 _ => writeln!(output, "circles {count:6} refused {number}")?,
             }
         }
-        write!(output, "{}", self.singles)
+        write!(output, "{}{}", self.singles, self.barred)
     }
 }
 
@@ -91,6 +97,11 @@ mod tests {
             for number in [0, 14] {
                 assert!(counts.circles_numbers.get(&number) > Some(&10), "{number}");
             }
+            let undo_on_a_ring = usize::from(second::refusal::UNDO_ON_A_RING);
+            assert!(counts.numbers[undo_on_a_ring] >= 36);
+            for (count, name) in counts.barred.named() {
+                assert!(count >= 3, "{count} {name}");
+            }
         }
     }
 
@@ -106,7 +117,7 @@ mod tests {
         }
         assert_eq!(counts.missing(), [0; 0], "too few to tell");
         counts.count(&empty);
-        let all_but_2 = [1].into_iter().chain(3..=18).chain([20, 21]);
+        let all_but_2 = [1].into_iter().chain(3..=18).chain(20..=22);
         assert_eq!(counts.missing(), all_but_2.collect::<Vec<_>>());
         let text = counts.to_string();
         assert!(text.contains("kind   2000 empty\n"));

@@ -2,6 +2,7 @@
 //! that read books can be run on the same ones and compared.
 
 mod aim;
+mod barred;
 pub mod books;
 pub mod cases;
 pub mod counts;
@@ -10,7 +11,9 @@ mod draft;
 mod model;
 mod noise;
 mod random;
+mod replay;
 mod singles;
 mod story;
 mod stuck;
 mod tables;
+mod undoing;

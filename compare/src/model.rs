@@ -48,15 +48,24 @@ pub enum Circumstance {
     RingOfActive(bool),
     /// Whether the operation that is to end alone is a write.
     Single(bool),
+    /// Whether 256 operations are accepted already.
+    Full(bool),
+    /// Whether the one that gets an operation has nothing to do with the
+    /// objects of active undos.
+    FarFromUndos(bool),
 }
+
+/// At most this many operations are accepted in a book.
+const MOST_OPERATIONS: usize = 256;
 
 #[derive(Clone, Debug)]
 pub struct Operation {
-    object: u16,
+    pub object: u16,
     writes: bool,
     phase: Phase,
     pub responsible: usize,
-    /// The earlier operations it is tied to.
+    /// The earlier operations it is tied to: those in conflict with it that
+    /// weren't aborted when it was accepted.
     tied: Vec<usize>,
 }
 
@@ -270,11 +279,15 @@ impl Model {
         if self.phases[t] != Phase::Active {
             return 11;
         }
-        let is_undo = matches!(self.sorts[t], Sort::Undo { .. });
-        let mut conflicts = self.active_conflicts(object, writes);
-        if is_undo && conflicts.any(|p| self.operations[p].responsible != t) {
+        let must_wait = |p: usize| {
+            let earlier = &self.operations[p];
+            earlier.phase == Phase::Active && earlier.responsible != t
+        };
+        if self.is_undo(t) && self.conflicts(object, writes).any(must_wait) {
             17
-        } else if self.operations.len() == 256 {
+        } else if self.bars_an_undo(Event::Operation(t as u16, object, writes.into())) {
+            22
+        } else if self.is_full() {
             18
         } else {
             0
@@ -282,15 +295,62 @@ impl Model {
     }
 
     fn verdict_on_delegation(&self, giver: usize, receiver: usize, operation: usize) -> u8 {
+        let handed = Event::Delegate(giver as u16, receiver as u16, operation as u16);
         if giver == receiver || !self.delegates(giver) || !self.delegates(receiver) {
             9
         } else if self.phases[giver] != Phase::Active || self.phases[receiver] != Phase::Active {
             11
         } else if self.operations[operation].responsible != giver {
             12
+        } else if self.operation_phase(operation) == Phase::Active && self.bars_an_undo(handed) {
+            22
         } else {
             0
         }
+    }
+
+    pub fn is_undo(&self, t: usize) -> bool {
+        matches!(self.sorts[t], Sort::Undo { .. })
+    }
+
+    /// The active undos, whose way to their commit is to be kept free.
+    pub fn active_undos(&self) -> Vec<usize> {
+        let mut active = self.in_phase(Phase::Active);
+        active.retain(|t| self.is_undo(*t));
+        active
+    }
+
+    /// Whether no further operation can be accepted.
+    pub fn is_full(&self) -> bool {
+        self.operations.len() == MOST_OPERATIONS
+    }
+
+    /// Whether a transaction answers for nothing on an object on which an active
+    /// undo has worked, and this object is none of these either.
+    pub fn is_far_from_undos(&self, t: usize, object: u16) -> bool {
+        let undos = self.active_undos();
+        let all = &self.operations;
+        let of_t = all.iter().filter(|operation| operation.responsible == t);
+        let mut touched = of_t.map(|operation| operation.object).chain([object]);
+        let by_undo = |operation: &&Operation| undos.contains(&operation.responsible);
+        !touched.any(|object| {
+            all.iter()
+                .filter(by_undo)
+                .any(|other| other.object == object)
+        })
+    }
+
+    /// Whether some active undo is on a ring once the event is taken in. It is
+    /// taken in by a copy, also where it is one operation too many.
+    fn bars_an_undo(&self, event: Event) -> bool {
+        let undos = self.active_undos();
+        if undos.is_empty() {
+            return false;
+        }
+        let mut after = self.clone();
+        after.take(event);
+        let pairs = after.pairs();
+        undos.iter().any(|undo| leads_back(&pairs, *undo))
     }
 
     fn verdict_on_single_commit(&self, t: usize, operation: usize) -> u8 {
@@ -328,10 +388,12 @@ impl Model {
         self.operations[operation].phase
     }
 
-    fn active_conflicts(&self, object: u16, writes: bool) -> impl Iterator<Item = usize> + '_ {
+    /// The operations so far that conflict with a new one and aren't aborted.
+    fn conflicts(&self, object: u16, writes: bool) -> impl Iterator<Item = usize> + '_ {
         (0..self.operations.len()).filter(move |p| {
             let earlier = &self.operations[*p];
-            earlier.object == object && (earlier.writes || writes) && earlier.phase == Phase::Active
+            let conflict = earlier.object == object && (earlier.writes || writes);
+            conflict && earlier.phase != Phase::Aborted
         })
     }
 
@@ -411,10 +473,16 @@ impl Model {
                 [self.around(t), on_commit.collect()].concat()
             }
             Event::Abort(t) => self.around(usize::from(t)),
-            Event::Operation(t, ..) => vec![Of(self.sorts[usize::from(t)].name())],
+            Event::Operation(t, object, _) => vec![
+                Of(self.sorts[usize::from(t)].name()),
+                Full(self.is_full()),
+                FarFromUndos(self.is_far_from_undos(t.into(), object)),
+            ],
             Event::Delegate(giver, receiver, operation) => {
-                let operation = In(self.operation_phase(operation.into()));
-                [self.acting(giver), self.acting(receiver), vec![operation]].concat()
+                let Operation { phase, object, .. } = self.operations[usize::from(operation)];
+                let far = FarFromUndos(self.is_far_from_undos(receiver.into(), object));
+                let handed = vec![In(phase), far];
+                [self.acting(giver), self.acting(receiver), handed].concat()
             }
             Event::CommitOperation(t, operation) => {
                 let (acting, t) = (self.acting(t), usize::from(t));
@@ -500,7 +568,7 @@ impl Model {
             Event::Abort(t) => self.end(t.into(), Phase::Aborted),
             Event::Operation(t, object, mark) => {
                 let writes = mark == 1;
-                let tied = self.active_conflicts(object, writes).collect();
+                let tied = self.conflicts(object, writes).collect();
                 self.operations.push(Operation {
                     object,
                     writes,

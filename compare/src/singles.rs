@@ -1,8 +1,7 @@
 //! What became of the commits and aborts of single operations.
 
-use crate::draft::{Draft, Event};
+use crate::draft::Event;
 use crate::model::{Model, Phase};
-use second::Reading;
 use std::fmt;
 
 /// Counted over all books.
@@ -23,21 +22,11 @@ pub struct Singles {
 }
 
 impl Singles {
-    /// Counts what happens in a book that was read.
-    pub fn count(&mut self, book: &[u8], reading: &Reading) {
-        if reading.opening == 0 {
-            return;
-        }
-        let Some(Draft { tables, events }) = Draft::of_book(book) else {
-            return;
-        };
-        let mut model = Model::new(&tables);
-        for event in &events[..reading.events] {
-            self.count_accepted(&model, *event);
-            model.take(*event);
-        }
-        if let Some(event) = events.get(reading.events) {
-            self.count_refused(&model, *event, reading.number);
+    /// Counts an event that was read with the number in the state.
+    pub fn count(&mut self, model: &Model, event: Event, number: u8) {
+        match number {
+            second::refusal::ACCEPTED => self.count_accepted(model, event),
+            _ => self.count_refused(model, event, number),
         }
     }
 
@@ -97,11 +86,14 @@ impl fmt::Display for Singles {
 mod tests {
     use super::*;
     use crate::books::book;
+    use crate::replay::replay;
 
     fn counted(books: &[&[u8]]) -> Singles {
         let mut singles = Singles::default();
         for book in books {
-            singles.count(book, &second::read(book));
+            replay(book, &second::read(book), |model, event, number| {
+                singles.count(model, event, number)
+            });
         }
         singles
     }
@@ -154,11 +146,9 @@ mod tests {
 
     #[test]
     fn all_of_it_comes_up() {
-        let mut singles = Singles::default();
-        for index in 0..2000 {
-            let made = book(1, index);
-            singles.count(&made.bytes, &second::read(&made.bytes));
-        }
+        let books: Vec<Vec<u8>> = (0..2000).map(|index| book(1, index).bytes).collect();
+        let books: Vec<&[u8]> = books.iter().map(Vec::as_slice).collect();
+        let singles = counted(&books);
         for (count, name) in singles.named() {
             assert!(count >= 10, "{count} {name}");
         }

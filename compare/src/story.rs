@@ -85,7 +85,6 @@ const FILLING: Mood = Mood {
 
 /// How many draws until an acceptable event is given up.
 const DRAWS: usize = 30;
-const MOST_OPERATIONS: usize = 256;
 
 /// A draft, and the state its events have likely led to.
 pub struct Story {
@@ -143,7 +142,7 @@ impl Story {
 
     /// Goes on until 256 operations are accepted; false if it doesn't come to that.
     pub fn fill_up(&mut self, random: &mut Random) -> bool {
-        while self.model.operations.len() < MOST_OPERATIONS {
+        while !self.model.is_full() {
             if !self.go_on_once(random, FILLING) {
                 return false;
             }
@@ -375,6 +374,7 @@ mod tests {
     use super::*;
     use crate::draft::encode;
     use crate::stuck::never_moving_story;
+    use crate::undoing::story_around_an_undo;
 
     fn as_second_reads_it(event: Event) -> second::Event {
         match event {
@@ -440,6 +440,13 @@ mod tests {
             let random = &mut Random::new(15, index);
             let (story, _) = never_moving_story(random);
             walk(random, &story);
+        }
+        for index in 0..120 {
+            let random = &mut Random::new(16, index);
+            if let Some(mut story) = story_around_an_undo(random) {
+                story.go_on(random, 10);
+                walk(random, &story);
+            }
         }
         let full = (0..3).filter_map(|index| full_story(&mut Random::new(12, index), 30));
         for story in full {

@@ -131,6 +131,7 @@ pub fn tables_for(random: &mut Random, number: u8) -> Tables {
             13 => !tables.steps.is_empty(),
             14 => !tables.dependencies.is_empty(),
             17 => some_meet && has_undo,
+            22 => has_undo && tables.plain >= 4 && tables.objects >= 3,
             _ => true,
         };
         if suits {

@@ -73,29 +73,39 @@ impl OperationSet {
         Some(word * BITS + self.0[word].trailing_zeros() as usize)
     }
 
+    /// The highest operation number in the set.
+    #[inline]
+    pub fn highest(&self) -> Option<usize> {
+        let word = self.0.iter().rposition(|word| *word != 0)?;
+        Some(word * BITS + self.0[word].ilog2() as usize)
+    }
+
     /// Those of the set with numbers higher than this one.
     #[inline]
     pub fn above(self, operation: usize) -> OperationSet {
-        self.without(&OperationSet::all_below(operation + 1))
+        self.without(&ALL_BELOW[operation + 1])
     }
 
     /// Those of the set with numbers lower than this one.
     #[inline]
     pub fn below(self, operation: usize) -> OperationSet {
-        self.and(&OperationSet::all_below(operation))
+        self.and(&ALL_BELOW[operation])
     }
+}
 
-    #[inline]
-    fn all_below(operation: usize) -> OperationSet {
-        OperationSet(std::array::from_fn(|index| {
-            let here = operation.saturating_sub(index * BITS);
-            if here < BITS {
-                (1 << here) - 1
-            } else {
-                u64::MAX
-            }
-        }))
+/// For each number up to the most, the set of all lower ones. Ties are followed
+/// by cutting sets, so the cuts are kept ready.
+static ALL_BELOW: [OperationSet; MOST_OPERATIONS + 1] = all_below_each();
+
+const fn all_below_each() -> [OperationSet; MOST_OPERATIONS + 1] {
+    let mut sets = [OperationSet::EMPTY; MOST_OPERATIONS + 1];
+    let mut operation = 0;
+    while operation < MOST_OPERATIONS {
+        sets[operation + 1] = sets[operation];
+        sets[operation + 1].0[operation / BITS] |= 1 << (operation % BITS);
+        operation += 1;
     }
+    sets
 }
 
 #[cfg(test)]
@@ -115,8 +125,11 @@ mod tests {
         let mut ends = set(&[0, 63, 64, 255]);
         assert!(ends.contains(63) && ends.contains(64) && !ends.contains(65));
         ends.remove(0);
-        assert_eq!(ends.lowest(), Some(63));
+        assert_eq!((ends.lowest(), ends.highest()), (Some(63), Some(255)));
+        ends.remove(255);
+        assert_eq!(ends.highest(), Some(64));
         assert_eq!(OperationSet::EMPTY.lowest(), None);
+        assert_eq!(OperationSet::EMPTY.highest(), None);
         assert_eq!(OperationSet::of(64), set(&[64]));
         assert!(OperationSet::EMPTY.is_empty() && !ends.is_empty());
     }

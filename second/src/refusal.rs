@@ -45,3 +45,6 @@ pub const ROOM_TOO_SMALL: u8 = 19;
 pub const ALREADY_ENDED: u8 = 20;
 /// Declared begin dependencies lead from a transaction back to itself.
 pub const NEVER_MOVES: u8 = 21;
+/// The operation or the delegation would put an active undo on a ring of ties,
+/// and then the undo could not commit.
+pub const UNDO_ON_A_RING: u8 = 22;

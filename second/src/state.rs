@@ -1,5 +1,7 @@
 //! The state after the accepted events, and the judging of the next one.
 
+mod order;
+
 use crate::event::Event;
 use crate::operations::{OperationSet, MOST_OPERATIONS};
 use crate::refusal;
@@ -251,11 +253,17 @@ impl State {
         let sort = tables.sort(t);
         refuse_unless(!matches!(sort, Sort::Saga { .. }), refusal::NEVER_DONE)?;
         refuse_unless(self.is_active(t), refusal::NOT_ACTIVE)?;
+        let conflicting = self.conflicting_with_new(object, mark);
         if let Sort::Undo { .. } = sort {
-            let conflicting = self.active_conflicts(object, mark);
-            let of_others = conflicting.without(&self.answered_by[t]);
+            let of_others = conflicting
+                .and(&self.active_operations)
+                .without(&self.answered_by[t]);
             refuse_unless(of_others.is_empty(), refusal::UNDO_MUST_WAIT)?;
         }
+        refuse_unless(
+            !self.would_bar_an_undo(tables, t, conflicting),
+            refusal::UNDO_ON_A_RING,
+        )?;
         refuse_unless(self.accepted < MOST_OPERATIONS, refusal::OPERATIONS_USED_UP)?;
         self.take_operation(t, object, mark);
         Ok(())
@@ -274,8 +282,9 @@ impl State {
         }
     }
 
-    /// Makes another transaction responsible for an operation. One that has
-    /// ended stays where it is.
+    /// Makes another transaction responsible for an operation, unless that
+    /// would bar an undo: then it is taken back. An operation that has ended
+    /// stays where it is.
     fn delegate(
         &mut self,
         tables: &Tables,
@@ -294,12 +303,21 @@ impl State {
             self.responsible(operation) == giver,
             refusal::NOT_RESPONSIBLE,
         )?;
-        if self.active_operations.contains(operation) {
-            self.responsible[operation] = receiver as u8;
-            self.answered_by[giver].remove(operation);
-            self.answered_by[receiver].insert(operation);
+        if !self.active_operations.contains(operation) {
+            return Ok(());
+        }
+        self.hand_over(operation, giver, receiver);
+        if self.would_bar_an_undo(tables, receiver, OperationSet::EMPTY) {
+            self.hand_over(operation, receiver, giver);
+            return Err(refusal::UNDO_ON_A_RING);
         }
         Ok(())
+    }
+
+    fn hand_over(&mut self, operation: usize, giver: usize, receiver: usize) {
+        self.responsible[operation] = receiver as u8;
+        self.answered_by[giver].remove(operation);
+        self.answered_by[receiver].insert(operation);
     }
 
     fn commit_operation(
@@ -415,13 +433,13 @@ impl State {
         })
     }
 
-    /// The active operations on an object that conflict with a new one: same
-    /// object, at least one of the two a write.
-    fn active_conflicts(&self, object: usize, mark: Mark) -> OperationSet {
-        let active = self.on_object[object].and(&self.active_operations);
+    /// The operations on an object that conflict with a new one: same object,
+    /// at least one of the two a write.
+    fn conflicting_with_new(&self, object: usize, mark: Mark) -> OperationSet {
+        let on_object = self.on_object[object];
         match mark {
-            Mark::Read => active.and(&self.writes),
-            Mark::Write => active,
+            Mark::Read => on_object.and(&self.writes),
+            Mark::Write => on_object,
         }
     }
 
@@ -484,82 +502,6 @@ impl State {
             }
         }
         false
-    }
-
-    /// Whether following ties leads from `t` back to it. Each transaction is
-    /// followed once.
-    fn is_on_a_ring(&self, t: usize) -> bool {
-        let mut unreached = self.operations_not_aborted();
-        let mut to_follow = self.reach_after(t, &mut unreached);
-        while to_follow != 0 {
-            if to_follow & bit(t) != 0 {
-                return true;
-            }
-            let next = to_follow.trailing_zeros() as usize;
-            to_follow &= !bit(next);
-            to_follow |= self.reach_after(next, &mut unreached);
-        }
-        false
-    }
-
-    /// The transactions that `earlier` stands before by one tie, as bits.
-    pub(crate) fn standing_after(&self, earlier: usize) -> u64 {
-        self.reach_after(earlier, &mut self.operations_not_aborted())
-    }
-
-    fn operations_not_aborted(&self) -> OperationSet {
-        OperationSet::ALL.without(&self.aborted_operations)
-    }
-
-    /// The transactions that `earlier` stands before by a tie with an operation
-    /// in `unreached`. All they answer for is taken out of that set.
-    fn reach_after(&self, earlier: usize, unreached: &mut OperationSet) -> u64 {
-        let own = &self.answered_by[earlier];
-        let mut tied = self.tied_after(earlier).without(own).and(unreached);
-        let mut reached = 0;
-        while let Some(operation) = tied.lowest() {
-            let later = self.responsible(operation);
-            reached |= bit(later);
-            tied = tied.without(&self.answered_by[later]);
-            *unreached = unreached.without(&self.answered_by[later]);
-        }
-        reached
-    }
-
-    /// All operations tied after one that `earlier` answers for and that isn't
-    /// aborted.
-    fn tied_after(&self, earlier: usize) -> OperationSet {
-        let own = self.answered_by[earlier].without(&self.aborted_operations);
-        let not_alone = own.without(&self.ended_alone);
-        let mut tied = self
-            .conflicting_after(not_alone)
-            .below(self.operations_before_end(earlier));
-        let mut alone = own.and(&self.ended_alone);
-        while let Some(operation) = alone.lowest() {
-            let found_active = self
-                .conflicting_after(OperationSet::of(operation))
-                .below(self.operations_before_end_of(operation));
-            tied = tied.or(&found_active);
-            alone.remove(operation);
-        }
-        tied
-    }
-
-    /// All operations that come after one of these and conflict with it. On
-    /// each object a later write conflicts with the lowest of these, a later
-    /// read with the lowest write among them, if with any.
-    fn conflicting_after(&self, mut operations: OperationSet) -> OperationSet {
-        let mut conflicting = OperationSet::EMPTY;
-        while let Some(first) = operations.lowest() {
-            let on_object = &self.on_object[self.object(first)];
-            conflicting = conflicting.or(&on_object.and(&self.writes).above(first));
-            let writes_here = operations.and(on_object).and(&self.writes);
-            if let Some(first_write) = writes_here.lowest() {
-                conflicting = conflicting.or(&on_object.above(first_write));
-            }
-            operations = operations.without(on_object);
-        }
-        conflicting
     }
 
     /// Notes that `t` ends now, takes the operations it answers for out of the

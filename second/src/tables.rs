@@ -139,6 +139,7 @@ pub struct Tables {
     sagas: [Saga; MOST_SAGAS],
     transactions: usize,
     sorts: [Sort; MOST_TRANSACTIONS],
+    undos: u64,
     objects: usize,
     dependency_count: usize,
     dependencies: [Dependency; MOST_DEPENDENCIES],
@@ -153,6 +154,7 @@ impl Tables {
         sagas: [Saga { first: 0, steps: 0 }; MOST_SAGAS],
         transactions: 0,
         sorts: [Sort::Plain; MOST_TRANSACTIONS],
+        undos: 0,
         objects: 0,
         dependency_count: 0,
         dependencies: [Dependency {
@@ -179,6 +181,12 @@ impl Tables {
     #[inline]
     pub fn sort(&self, transaction: usize) -> Sort {
         self.sorts[transaction]
+    }
+
+    /// The undos of all sagas, as bits.
+    #[inline]
+    pub fn undos(&self) -> u64 {
+        self.undos
     }
 
     /// The sagas by rising number.
@@ -280,6 +288,7 @@ impl Tables {
                 step: saga.step(i) as u8,
                 last_step,
             };
+            self.undos |= 1 << saga.undo(i);
         }
         Ok(())
     }

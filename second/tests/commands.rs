@@ -73,6 +73,12 @@ fn listing_and_pairs() {
         &three_writers,
         "active 3 lowest 0\n0 2\n1 0\n1 2\n",
     );
+    let reader_after_a_commit = [1, 0, 2, 1, 0, 1, 0, 1, 1, 4, 0, 0, 1, 2, 0, 4, 1, 0, 0];
+    answers(
+        &["pairs"],
+        &reader_after_a_commit,
+        "active 1 lowest 1\n0 1\n",
+    );
     answers(&["pairs"], &[7], "active 0 lowest 64\n");
 }
 
@@ -210,15 +216,20 @@ fn bad_input_to_the_tool() {
 
 #[test]
 fn closed_standard_output() {
+    // Plain 0 and 1 hand a write to and fro; the answer is longer than a pipe
+    // holds, so it can't be gone before anybody notices that nobody reads it.
+    let begun = [1, 0, 2, 1, 0, 1, 0, 1, 1, 4, 0, 0, 1];
+    let handed_to_and_fro = [5, 0, 1, 0, 5, 1, 0, 0].repeat(8_000);
     let mut child = program()
-        .arg("listing")
+        .arg("unpack")
         .stdin(Stdio::piped())
         .stdout(Stdio::piped())
         .stderr(Stdio::piped())
         .spawn()
         .unwrap();
     drop(child.stdout.take());
-    child.stdin.take().unwrap().write_all(&LISTED).unwrap();
+    let book = [&begun[..], &handed_to_and_fro].concat();
+    child.stdin.take().unwrap().write_all(&book).unwrap();
     let output = child.wait_with_output().unwrap();
     let message = String::from_utf8_lossy(&output.stderr);
     assert_eq!(output.status.code(), Some(1));

@@ -3,6 +3,7 @@ use Prim.Native.Nat.{ℕ, _+_, _*_, _≤_, _<_, min}
 use mathlib.Core.Bool.{Bool, true, false, not, _&&_, _||_, false≢true}
 use native.Mathlib.Omega.{arith}
 use mathlib.Core.Path.{_≡_, refl, sym, ap, subst, _∙_}
+use mathlib.Core.Logic.{inl, inr, ⊎-elim}
 use mathlib.Core.List.{List}
 use lib.ListN.{length}
 use lib.Dec.{leb, eqb}
@@ -12,7 +13,6 @@ use Rattle.laws.proofs.IndexLaws.{any-off}
 use Rattle.terms.specs.Limits.{mostDependencies, mostTransactions}
 use Rattle.terms.specs.declared.Verdict.the-variants.{Accepted}
 use Rattle.sets.specs.Reach.{at}
-use Rattle.ties.proofs.RingLaws.{ring-free}
 use Rattle.tables.specs.Accepted.{Well}
 use Rattle.tables.specs.Dependencies.{dependencyAt, kindNumber, mayDepend}
 use Rattle.tables.specs.Sorts.{firstOf, numberOfAll, sortOf, stepsOf}
@@ -24,7 +24,7 @@ use Rattle.tables.specs.declared.Tables.{Tables}
 use Rattle.tables.proofs.DependencyLaws.{on-allowed}
 use Rattle.tables.proofs.SagaLaws.{owned-le, sort-step, sort-undo, well-steps}
 use Rattle.judge.specs.Judge.{changeOf, judged, stateAfter}
-use Rattle.judge.specs.Rules.{barredBy, commitBars, declaredBars, kindBars, undoBegins, undone}
+use Rattle.judge.specs.Rules.{barredBy, commitBarred, commitBars, declaredBars, kindBars, undoBegins, undone}
 use Rattle.judge.specs.States.{entered, isAborted, isActive, isCommitted, own, phaseOf}
 use Rattle.terms.specs.declared.Event.the-variants.{Abort, Begin, Commit}
 use Rattle.judge.specs.declared.Phase.{Phase}
@@ -37,7 +37,7 @@ use Rattle.judge.proofs.StateLaws.{entered-other, entered-same}
 use Rattle.closing.proofs.Moves.{Move, Moved, abort-saga, abort-step, begin-saga, begin-step, begin-undo, commit-saga, commit-step, commit-undo, movedAt, movedTo}
 use Rattle.closing.proofs.OutstandingLaws.{Safe, moveEvent}
 use Rattle.closing.proofs.OwnEvents.{f0, sort-first}
-use Rattle.closing.proofs.UndoTies.{Alone, Tidy, none-before, not-dirty, tied-counted}
+use Rattle.closing.proofs.UndoTies.{Alone, Tidy, not-dirty, saga-off-rings, tied-counted}
 
 -- ---- declared dependencies
 
@@ -87,13 +87,54 @@ module _ (tables : Tables) (well : Well tables) (s : State) where
       late-kind (dependencyAt tables i .kind) (phaseOf (s .transactions) (dependencyAt tables i .base))
       (saga-late f n (kindNumber (dependencyAt tables i .kind)) (sortOf tables t) e (declared-of t i l u))))
 
-  -- nothing of another's is tied before an operation of S or of an undo
+  -- what is tied before an operation of S or of an undo is committed or its own
   alone-saga : Tidy tables s → (t f n : ℕ) → sortOf tables t ≡ SagaItself f n → Alone s t
   alone-saga tidy t f n e p q r w =
-      clash (rw (ap (sortOf tables) r ∙ e)) (tidy .free q (tied-counted s (tidy .ends .lasts) p q w))
+      clash (rw (ap (sortOf tables) r ∙ e)) (tidy .free q (tied-counted s (tidy .off-rings .ends .lasts) p q w))
 
   alone-undo : Tidy tables s → (t f n j : ℕ) → sortOf tables t ≡ Undo f n j → Alone s t
-  alone-undo tidy t f n j e p q r w = tidy .clear p q (rw (ap (sortOf tables) r ∙ e)) w ∙ r
+  alone-undo tidy t f n j e p q r w = ⊎-elim inl (λ same. inr (same ∙ r)) (tidy .clear p q (rw (ap (sortOf tables) r ∙ e)) w)
+
+  -- an active undo commits
+  pub undo-commits : Tidy tables s → (t f n j : ℕ) → sortOf tables t ≡ Undo f n j → code (phaseOf (s .transactions) t) ≡ 1 → judged tables s (Commit t) .verdict ≡ Accepted
+  undo-commits tidy t f n j x a =
+      off-lines tables s (Commit t) (
+        rw x,
+        (
+          rw (of-active (phaseOf (s .transactions) t) a),
+          (
+            rw x,
+            (
+              undo-free false t f n j x,
+              (
+                not-dirty tables s t (tidy .off-rings .ends) (rw x) a (alone-undo tidy t f n j x),
+                (tidy .off-rings .free t (rw (x, of-active (phaseOf (s .transactions) t) a)), tt),
+              ),
+            ),
+          ),
+        ),
+      )
+
+  -- and so does an active S whose last step is committed
+  pub saga-commits : Tidy tables s → (t f n : ℕ) → sortOf tables t ≡ SagaItself f n → code (phaseOf (s .transactions) t) ≡ 1
+      → commitBarred (s .transactions) (SagaItself f n) ≡ false → judged tables s (Commit t) .verdict ≡ Accepted
+  saga-commits tidy t f n x a done =
+      off-lines tables s (Commit t) (
+        rw x,
+        (
+          rw (of-active (phaseOf (s .transactions) t) a),
+          (
+            rw x done,
+            (
+              saga-free t f n x,
+              (
+                not-dirty tables s t (tidy .off-rings .ends) (rw x) a (alone-saga tidy t f n x),
+                (saga-off-rings tables s tidy t (rw x), tt),
+              ),
+            ),
+          ),
+        ),
+      )
 
   module _ (tidy : Tidy tables s) (i : ℕ) (listed : i < tables .sagas) where
     abbrev f : ℕ
@@ -139,46 +180,11 @@ module _ (tables : Tables) (well : Well tables) (s : State) where
             (λ t. let r = g (committed-is (P (j + 1)) t) in rw (t, lt-ltb (j + 1) n (r .0), of-committed (P (n + (j + 1))) (r .1)))
             (λ t. rw t))))
     accept (commit-saga a b) ok =
-        let x : sortOf tables (f + 0) ≡ SagaItself f n = sort-first tables i s has-step in
-        let alone = alone-saga tidy (f + 0) f n x in
         subst
         (λ (t : ℕ). judged tables s (Commit t) .verdict ≡ Accepted)
         at-first
-        (off-lines tables s (Commit (f + 0)) (
-          rw x,
-          (
-            rw (of-active (P 0) a),
-            (
-              rw x (rw (of-committed (P n) b)),
-              (
-                saga-free (f + 0) f n x,
-                (
-                  not-dirty tables s (f + 0) (tidy .ends) (rw x) a alone,
-                  (ring-free (s .ops) (f + 0) (none-before s (f + 0) alone), tt),
-                ),
-              ),
-            ),
-          ),
-        ))
-    accept (commit-undo j a b c) ok =
-        let x : sortOf tables (f + (n + j)) ≡ Undo f n j = sort-undo tables i j a b in
-        let alone = alone-undo tidy (f + (n + j)) f n j x in
-        off-lines tables s (Commit (f + (n + j))) (
-          rw x,
-          (
-            rw (of-active (P (n + j)) c),
-            (
-              rw x,
-              (
-                undo-free false (f + (n + j)) f n j x,
-                (
-                  not-dirty tables s (f + (n + j)) (tidy .ends) (rw x) c alone,
-                  (ring-free (s .ops) (f + (n + j)) (none-before s (f + (n + j)) alone), tt),
-                ),
-              ),
-            ),
-          ),
-        )
+        (saga-commits tidy (f + 0) f n (sort-first tables i s has-step) a (rw (of-committed (P n) b)))
+    accept (commit-undo j a b c) ok = undo-commits tidy (f + (n + j)) f n j (sort-undo tables i j a b) c
     accept (abort-saga a b) ok =
         let x : sortOf tables (f + 0) ≡ SagaItself f n = sort-first tables i s has-step in
         subst

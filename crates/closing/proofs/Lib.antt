@@ -8,5 +8,6 @@ pub mod Acts
 pub mod Order
 pub mod UndoTies
 pub mod ClosingAccepted
+pub mod AlwaysCommitsHolds
 pub mod Demand3Holds
 pub mod ClosingSettlesHolds

@@ -1,4 +1,5 @@
--- The definitions that the contracts of `closing` cite, demand 3, and what follows for a manager.
+-- The definitions that the contracts of `closing` cite, demand 3, the commits that nothing bars, and what follows for a manager.
 pub mod Closing
+pub mod Committing
 pub mod Demand
 pub mod Settling

@@ -26,6 +26,9 @@ use Rattle.histories.proofs.Responsible.{responsible-told}
 use Rattle.histories.proofs.RunLaws.{next-ok, one-event}
 use Rattle.histories.proofs.Singles.{ended-alone}
 use Rattle.histories.proofs.TiesMean.{ties-mean}
+use Rattle.histories.proofs.Orders.{order-means}
+use Rattle.histories.proofs.UndoRings.{freed, rings-given, rings-made}
+use Rattle.ties.proofs.OrderLaws.{made-order}
 
 ends-with : (s : State) (t : ℕ) (phase : Phase) (fate : Fate) → EndsWith s (stateAfter (Ends t phase fate) s) t fate
 unfolding stateAfter
@@ -36,6 +39,11 @@ any-run tables es =
     record {
       responsible = responsible-told tables es;
       ties = ties-mean tables es;
+      order = order-means tables es;
+      undo-off-rings = freed tables es .free;
+      rings-made = rings-made tables es;
+      rings-given = rings-given tables es;
+      order-made = λ x l. made-order (reached tables es .ops) x (lasting tables es .room) l;
       active = λ q l a. is-active (phaseOf (reached tables es .transactions) (opAt (reached tables es .ops) q .responsible)) (lasting tables es .active q a);
       commits = λ t v. subst (λ (x : State). EndsWith (reached tables es) x t FateCommitted) (sym (next-ok tables (reached tables es) (Commit t) v))
           (ends-with (reached tables es) t Committed FateCommitted);

@@ -9,4 +9,6 @@ pub mod Responsible
 pub mod Singles
 pub mod TiesMean
 pub mod CircleIdle
+pub mod Orders
+pub mod UndoRings
 pub mod JudgePromisesHold

@@ -8,16 +8,17 @@ use lib.Dec.{eqb}
 use borrow.Author.Tests.{eqb-true, leb-false}
 use Rattle.laws.specs.Lines.{Off}
 use Rattle.laws.proofs.Bools.{off-not, off-or}
+use Rattle.terms.specs.Limits.{mostObjects}
 use Rattle.terms.specs.declared.Verdict.the-variants.{Accepted}
 use Rattle.ties.specs.Operations.{isActive as isActiveOp, mostOperations, newOp, opAt, size}
-use Rattle.ties.specs.Ties.{mustWait, dirty, dirtyAt, onRing}
+use Rattle.ties.specs.Ties.{beforeGiven, beforeMade, mustWait, dirty, dirtyAt, onRing, ringWith}
 use Rattle.ties.specs.declared.Fate.{Fate}
 use Rattle.ties.specs.declared.Fate.the-variants.{Aborted as FateAborted, Committed as FateCommitted}
 use Rattle.terms.specs.declared.Mark.{Mark}
 use Rattle.tables.specs.Sorts.{isPlain, isSaga, isUndo, sortOf}
 use Rattle.tables.specs.declared.Tables.{Tables}
 use Rattle.histories.specs.Histories.{next, run}
-use Rattle.judge.specs.Judge.{changeOf, commitOneLines, inactive, judged, lines, noParty, singleLines, stateAfter}
+use Rattle.judge.specs.Judge.{activeUndo, changeOf, commitOneLines, inactive, judged, lines, noParty, singleLines, stateAfter}
 use Rattle.histories.specs.Promises.{MayEndOne}
 use Rattle.judge.specs.Rules.{abortBarred, beginBarred, commitBarred, declaredBars}
 use Rattle.judge.specs.States.{isActive, isIdle, phaseOf}
@@ -29,7 +30,7 @@ use Rattle.judge.specs.declared.Phase.{Phase}
 use Rattle.judge.specs.declared.Phase.the-variants.{Aborted, Active, Committed, Idle}
 use Rattle.judge.specs.declared.State.{State}
 use Rattle.judge.proofs.PhaseLaws.{active-is, code, idle-is}
-use Rattle.judge.proofs.RuleLaws.{operation-known, single-known}
+use Rattle.judge.proofs.RuleLaws.{object-small, operation-known, single-known}
 use Rattle.histories.proofs.RunLaws.{by-verdict, keeps, lines-off, next-no, next-ok}
 
 module _ (tables : Tables) (s : State) where
@@ -63,7 +64,9 @@ module _ (tables : Tables) (s : State) where
     pub room : s .ops .count < mostOperations
     pub active : code (phaseOf (s .transactions) t) ≡ 1
     pub no-saga : isSaga (sortOf tables t) ≡ false
+    pub object : o < mostObjects
     pub waited : (isUndo (sortOf tables t) && mustWait (s .ops) t o m) ≡ false
+    pub no-ring : ringWith (beforeMade (s .ops) (newOp t o m)) (activeUndo tables (s .transactions)) t ≡ false
 
   pub record Giving (t r q : ℕ) : Type 0 where
     pub accepted : q < size (s .ops)
@@ -72,6 +75,7 @@ module _ (tables : Tables) (s : State) where
     pub gives : noParty (sortOf tables t) ≡ false
     pub receives : noParty (sortOf tables r) ≡ false
     pub from : opAt (s .ops) q .responsible ≡ t
+    pub no-ring : (isActiveOp (opAt (s .ops) q .fate) && ringWith (beforeGiven (s .ops) q r) (activeUndo tables (s .transactions)) r) ≡ false
 
   pub data Step : Change → Type 0 where
     enters : (t : ℕ) → Entering t → Step (Enters t Active)
@@ -117,9 +121,17 @@ module _ (tables : Tables) (s : State) where
       ends t Committed FateCommitted (record { active = running t active; ended = omega arith; gone = refl; rule = (rule, declared, clean, no-ring) })
   step-off (Abort t) (known, (no-undo, (active, (rule, u)))) =
       ends t Aborted FateAborted (record { active = running t active; ended = omega arith; gone = refl; rule = (no-undo, rule) })
-  step-off (Invoke t o m) (known, (no-saga, (active, (waited, (room, u))))) =
-      makes t o m (record { room = leb-false mostOperations (s .ops .count) room; active = running t active; no-saga = no-saga; waited = waited })
-  step-off (Delegate t r q) (known, (parties, (active, (own, u)))) =
+  step-off (Invoke t o m) (known, (no-saga, (active, (waited, (no-ring, (room, u)))))) =
+      makes t o m
+      (record {
+        room = leb-false mostOperations (s .ops .count) room;
+        active = running t active;
+        no-saga = no-saga;
+        object = object-small tables t o known;
+        waited = waited;
+        no-ring = no-ring;
+      })
+  step-off (Delegate t r q) (known, (parties, (active, (own, (no-ring, u))))) =
       let both = off-or (noParty (sortOf tables t)) (noParty (sortOf tables r) || eqb t r) parties in
       let actives = off-or (inactive (s .transactions) t) (inactive (s .transactions) r) active in
       gives t r q
@@ -130,6 +142,7 @@ module _ (tables : Tables) (s : State) where
         gives = both .0;
         receives = off-or (noParty (sortOf tables r)) (eqb t r) (both .1) .0;
         from = mine t q own;
+        no-ring = no-ring;
       })
   step-off (CommitOne t q) off = ends-one t q FateCommitted (record { may = commit-one-may t q off .0; gone = refl })
   step-off (AbortOne t q) off = ends-one t q FateAborted (record { may = single-may t q off; gone = refl })

@@ -3,19 +3,20 @@
 use Prim.Native.Nat.{ℕ, _+_, _<_, _≤_}
 use native.Mathlib.Omega.{arith}
 use mathlib.Core.Path.{_≡_, refl, sym, ap, subst, _∙_}
-use mathlib.Core.Bool.{Bool, true, false, cond}
+use mathlib.Core.Bool.{Bool, true, false, cond, not, or-true}
 use mathlib.Core.Logic.{_≢_, _⊎_, inl, inr}
 use lib.Dec.{eqb}
 use lib.ListN.{length}
 use borrow.Author.Tests.{eqb-true, eq-eqb, le-ltb, lt-ltb, ne-eqb}
 use Rattle.laws.proofs.Bools.{and-on, bool-cases, clash, on-and}
 use Rattle.laws.proofs.Decisions.{lt-or, same-or}
-use Rattle.ties.specs.Operations.{allHeldBy, endedAs, noOperation, heldBy, isActive as isActiveOp, newOp, onlyActive, opAt, passedTo, rewritten, size}
-use Rattle.ties.specs.Ties.{wasActive}
+use Rattle.ties.specs.Operations.{allHeldBy, endedAs, noOperation, heldBy, isAborted as isAbortedOp, isActive as isActiveOp, isCommitted as isCommittedOp, newOp, onlyActive, opAt, passedTo, rewritten, size}
+use Rattle.ties.specs.Ties.{stood}
 use Rattle.ties.specs.declared.Fate.{Fate}
 use Rattle.terms.specs.declared.Mark.{Mark}
 use Rattle.ties.specs.declared.Operation.{Operation}
 use Rattle.ties.specs.declared.Ops.{Ops}
+use Rattle.ties.proofs.OrderLaws.{active-stands, active-uncommitted}
 use Rattle.ties.proofs.OpsLaws.{count-rewritten, length-made, length-rewritten, made-at, made-room, rewritten-at}
 use Rattle.tables.specs.Sorts.{sortOf}
 use Rattle.tables.specs.declared.Tables.{Tables}
@@ -93,11 +94,19 @@ module _ (tables : Tables) (s : State) (c : Change) where
     same-mark (ended fate f) = ap (λ (x : Operation). x .mark) (f .now)
     same-mark (passed r f) = ap (λ (x : Operation). x .mark) (f .now)
 
-    -- what was active when q was accepted stays so
-    pub same-was : (q : ℕ) → q < size (s .ops) → Touched p → wasActive (opAt (after .ops) p) q ≡ wasActive (opAt (s .ops) p) q
-    same-was q l (kept f) = ap (λ (x : Operation). wasActive x q) (f .now)
-    same-was q l (ended fate f) = ap (λ (x : Operation). wasActive x q) (f .now) ∙ rw (f .gone, f .active, lt-ltb q (size (s .ops)) l)
-    same-was q l (passed r f) = ap (λ (x : Operation). wasActive x q) (f .now)
+    -- whether it was aborted when q was accepted does not change
+    pub same-stood : (q : ℕ) → q < size (s .ops) → Touched p → stood (opAt (after .ops) p) q ≡ stood (opAt (s .ops) p) q
+    same-stood q l (kept f) = ap (λ (x : Operation). stood x q) (f .now)
+    same-stood q l (ended fate f) =
+        ap (λ (x : Operation). stood x q) (f .now)
+        ∙ rw (lt-ltb q (size (s .ops)) l, active-stands (opAt (s .ops) p .fate) (f .active), or-true (not (isAbortedOp fate)))
+    same-stood q l (passed r f) = ap (λ (x : Operation). stood x q) (f .now)
+
+    -- what is committed stays so
+    pub committed-stays : Touched p → isCommittedOp (opAt (s .ops) p .fate) ≡ true → isCommittedOp (opAt (after .ops) p .fate) ≡ true
+    committed-stays (kept f) h = ap (λ (x : Operation). isCommittedOp (x .fate)) (f .now) ∙ h
+    committed-stays (ended fate f) h = clash h (active-uncommitted (opAt (s .ops) p .fate) (f .active))
+    committed-stays (passed r f) h = clash h (active-uncommitted (opAt (s .ops) p .fate) (f .active))
 
     -- whose it is: as before, or it was given
     pub by-whose : {A : Type 0} → Touched p → (opAt (after .ops) p .responsible ≡ opAt (s .ops) p .responsible → A) → ((r : ℕ) → PassedNow p r → A) → A

@@ -1,15 +1,18 @@
 -- What is promised of judging, one event and any run of events.
 use Prim.Native.Nat.{ℕ, _<_}
 use mathlib.Core.Path.{_≡_}
-use mathlib.Core.Bool.{true, false, cond, _&&_}
+use mathlib.Core.Bool.{Bool, true, false, cond, not, _&&_}
 use lib.Dec.{eqb}
-use mathlib.Core.Logic.{_↔_}
+use mathlib.Core.Logic.{_↔_, _≢_}
 use mathlib.Core.List.{List}
 use Rattle.laws.specs.Lines.{Off, FirstIs}
 use Rattle.terms.specs.declared.Refusal.{Refusal}
 use Rattle.terms.specs.declared.Verdict.the-variants.{Accepted, Refused}
-use Rattle.ties.specs.Operations.{isActive as isActiveOperation, opAt, size, heldBy, endedAs}
-use Rattle.ties.specs.Ties.{conflict, tied, cleanFor, onRing}
+use Rattle.ties.specs.Operations.{isAborted, isActive as isActiveOperation, made, mostOperations, newOp, opAt, size, heldBy, endedAs}
+use Rattle.ties.specs.Ties.{before, beforeGiven, beforeMade, conflict, tied, cleanFor, onRing, ringWith}
+use Rattle.ties.specs.declared.Operation.{Operation}
+use Rattle.ties.specs.declared.Ops.{Ops}
+use Rattle.terms.specs.declared.Mark.{Mark}
 use Rattle.ties.specs.declared.Fate.{Fate}
 use Rattle.ties.specs.declared.Fate.the-variants.{Committed, Aborted}
 use Rattle.sets.specs.Reach.{Leads}
@@ -21,7 +24,7 @@ use Rattle.judge.specs.declared.State.{State}
 use Rattle.terms.specs.declared.Event.{Event}
 use Rattle.terms.specs.declared.Event.the-variants.{Commit, Abort, CommitOne, AbortOne}
 use Rattle.judge.specs.States.{isActive, phaseOf, emptyState}
-use Rattle.judge.specs.Judge.{lines, judged}
+use Rattle.judge.specs.Judge.{activeUndo, lines, judged}
 use Rattle.terms.specs.Events.{isWrite}
 use Rattle.histories.specs.Histories.{reached, history, responsibleIn, whenMade}
 
@@ -72,17 +75,45 @@ EndsWith before after t fate =
     (q : ℕ) → q < size (before .ops)
     → opAt (after .ops) q ≡ cond (heldBy t (opAt (before .ops) q)) (endedAs fate (size (before .ops)) (opAt (before .ops) q)) (opAt (before .ops) q)
 
+-- operations of a and b, the earlier tied to the later, neither of them aborted
+pub record Stands (ops : Ops) (a b : ℕ) : Type 0 where
+  pub p : ℕ
+  pub q : ℕ
+  pub tie : tied ops p q ≡ true
+  pub here : isAborted (opAt ops p .fate) ≡ false
+  pub there : isAborted (opAt ops q .fate) ≡ false
+  pub first : opAt ops p .responsible ≡ a
+  pub second : opAt ops q .responsible ≡ b
+  pub differ : a ≢ b
+
+-- some active undo is on a ring of this order
+abbrev pub UndoRinged : Tables → State → (ℕ → ℕ → Bool) → Type 0
+UndoRinged tables s R = (u : ℕ) × (activeUndo tables (s .transactions) u ≡ true) × Leads R u u
+
 -- any run of events, refused ones dropped
 pub record AnyRun (tables : Tables) (es : List Event) : Type 0 where
   -- "An operation's responsible transaction is its invoker until it is delegated, then the last receiver." "Delegating an operation that
   -- has ended is accepted and changes nothing."
   pub responsible : (q : ℕ) → q < size (reached tables es .ops)
       → opAt (reached tables es .ops) q .responsible ≡ responsibleIn (history tables es) q
-  -- "Operations p and q, p earlier, on the same object, at least one a write, are tied if p was active when q was accepted."
+  -- "q is tied to every earlier conflicting operation not aborted when q is accepted"
   pub ties : (p q : ℕ) → p < q → q < size (reached tables es .ops)
       → tied (reached tables es .ops) p q
       ≡ (conflict (opAt (reached tables es .ops) p) (opAt (reached tables es .ops) q .object) (opAt (reached tables es .ops) q .mark)
-      && isActiveOperation (opAt (whenMade tables emptyState es q .ops) p .fate))
+      && not (isAborted (opAt (whenMade tables emptyState es q .ops) p .fate)))
+  -- "while neither is aborted and their responsible transactions differ, p's stands before q's"
+  pub order : (a b : ℕ) → (before (reached tables es .ops) a b ≡ true) ↔ Stands (reached tables es .ops) a b
+  -- "So that an undo can always commit": no active undo is on a ring
+  pub undo-off-rings : (u : ℕ) → activeUndo tables (reached tables es .transactions) u ≡ true → onRing (reached tables es .ops) u ≡ false
+  -- "an operation or delegation that would put an active undo on a ring is refused": the lines of 22 hold exactly then
+  pub rings-made : (t o : ℕ) (m : Mark)
+      → (ringWith (beforeMade (reached tables es .ops) (newOp t o m)) (activeUndo tables (reached tables es .transactions)) t ≡ true)
+      ↔ UndoRinged tables (reached tables es) (beforeMade (reached tables es .ops) (newOp t o m))
+  pub rings-given : (q r : ℕ) → (ringWith (beforeGiven (reached tables es .ops) q r) (activeUndo tables (reached tables es .transactions)) r ≡ true)
+      ↔ UndoRinged tables (reached tables es) (beforeGiven (reached tables es .ops) q r)
+  -- where there is room for the operation, that is the order after it
+  pub order-made : (x : Operation) → reached tables es .ops .count < mostOperations
+      → beforeMade (reached tables es .ops) x ≡ before (made x (reached tables es .ops))
   -- an active operation's responsible transaction is active
   pub active : (q : ℕ) → q < size (reached tables es .ops) → isActiveOperation (opAt (reached tables es .ops) q .fate) ≡ true
       → isActive (phaseOf (reached tables es .transactions) (opAt (reached tables es .ops) q .responsible)) ≡ true

@@ -6,11 +6,16 @@ use mathlib.Core.Bool.{Bool, false, not, _&&_, _||_, and-true}
 use mathlib.Core.Logic.{_≢_}
 use mathlib.Core.List.{List, _++_}
 use lib.Dec.{ltb}
-use borrow.Author.Tests.{ltb-true, le-leb, lt-leb, eq-eqb, ne-eqb}
+use borrow.Author.Tests.{ltb-true, lt-ltb, le-leb, lt-leb, eq-eqb, ne-eqb}
 use Rattle.laws.specs.Lines.{Line}
 use Rattle.laws.proofs.LineLaws.{first-off, first-stays, off-past}
 use Rattle.laws.proofs.Bools.{off-not, off-or}
-use Rattle.terms.specs.Limits.{mostObjects}
+use Rattle.laws.proofs.IndexLaws.{any-off, any-same}
+use Rattle.terms.specs.Limits.{mostObjects, mostTransactions}
+use Rattle.sets.specs.Reach.{leadsTo}
+use Rattle.sets.specs.Sets.{mem}
+use Rattle.sets.proofs.SetLaws.{mem-empty, mem-set-of}
+use Rattle.ties.specs.Ties.{ringWith}
 use Rattle.ties.specs.Operations.{size}
 use Rattle.ties.specs.declared.Ops.{Ops}
 use Rattle.tables.specs.declared.Dependency.{Dependency}
@@ -18,7 +23,7 @@ use Rattle.tables.specs.declared.Tables.{Tables}
 use Rattle.terms.specs.declared.Refusal.{Refusal}
 use Rattle.terms.specs.declared.Verdict.{Verdict}
 use Rattle.terms.specs.declared.Verdict.the-variants.{Accepted, Refused}
-use Rattle.judge.specs.Judge.{unknown, unknownObject, verdictBy, changeBy, ruledBy}
+use Rattle.judge.specs.Judge.{activeUndo, activeUndos, unknown, unknownObject, verdictBy, changeBy, ruledBy}
 use Rattle.judge.specs.declared.Change.{Change}
 use Rattle.judge.specs.declared.Change.the-variants.{Nothing}
 use Rattle.judge.specs.Rules.{barredBy, kindBars, stepBegins}
@@ -81,3 +86,26 @@ module _ (shared own : List (Line Refusal)) (change : Change) {v : Verdict} (tol
   shared-passed e =
       ap (λ (x : Verdict). record { verdict = x; change = changeBy x change })
       (off-past Refused Accepted shared own (first-off Refused Accepted not-accepted shared (sym told ∙ e)))
+
+-- ---- active undos, as a set
+
+pub ring-some : (R : ℕ → ℕ → Bool) (tables : Tables) (ts : List Transaction) (set v : ℕ) → set ≡ activeUndos tables ts
+    → ringWith R (mem set) v ≡ ringWith R (activeUndo tables ts) v
+unfolding ringWith activeUndos
+ring-some R tables ts set v e =
+    any-same mostTransactions (λ u. mem set u && (leadsTo mostTransactions R v u && leadsTo mostTransactions R u v))
+    (λ u. activeUndo tables ts u && (leadsTo mostTransactions R v u && leadsTo mostTransactions R u v))
+    (λ u l.
+    let low : (ltb u mostTransactions && activeUndo tables ts u) ≡ activeUndo tables ts u = rw (lt-ltb u mostTransactions l) in
+    ap (λ (b : Bool). b && (leadsTo mostTransactions R v u && leadsTo mostTransactions R u v))
+    (ap (λ (x : ℕ). mem x u) e ∙ mem-set-of mostTransactions (activeUndo tables ts) u (omega arith) ∙ low))
+
+-- with no active undo there is none on a ring
+pub ring-nobody : (R : ℕ → ℕ → Bool) (tables : Tables) (ts : List Transaction) (set v : ℕ) → set ≡ activeUndos tables ts → set ≡ 0
+    → false ≡ ringWith R (activeUndo tables ts) v
+unfolding ringWith
+ring-nobody R tables ts set v e z =
+    sym
+    (sym (ring-some R tables ts set v e)
+    ∙ any-off mostTransactions (λ u. mem set u && (leadsTo mostTransactions R v u && leadsTo mostTransactions R u v))
+    (λ u l. rw (ap (λ (x : ℕ). mem x u) z ∙ mem-empty u)))

@@ -5,12 +5,14 @@ use mathlib.Core.Bool.{Bool, true, false, not, _&&_, _||_}
 use mathlib.Core.List.{List, [], _∷_, _++_}
 use lib.Dec.{ltb, leb, eqb}
 use Rattle.laws.specs.Lines.{Line, line, firstLine}
+use Rattle.terms.specs.Limits.{mostTransactions}
+use Rattle.sets.specs.Sets.{setOf}
 use Rattle.terms.specs.declared.Refusal.{Refusal}
-use Rattle.terms.specs.declared.Refusal.the-variants.{NotInTables, NeverDoes, NotIdle, NotActive, NotResponsible, SagaRule, DependencyRule, DirtyRead, OnRing, MustWait, Full, AlreadyEnded}
+use Rattle.terms.specs.declared.Refusal.the-variants.{NotInTables, NeverDoes, NotIdle, NotActive, NotResponsible, SagaRule, DependencyRule, DirtyRead, OnRing, MustWait, Full, AlreadyEnded, UndoOnRing}
 use Rattle.terms.specs.declared.Verdict.{Verdict}
 use Rattle.terms.specs.declared.Verdict.the-variants.{Accepted, Refused}
 use Rattle.ties.specs.Operations.{mostOperations, isActive as isActiveOperation, opAt, size, newOp, made, given, endedOne, endedOps}
-use Rattle.ties.specs.Ties.{onRing, dirtyAt, dirty, mustWait}
+use Rattle.ties.specs.Ties.{onRing, beforeMade, beforeGiven, ringWith, dirtyAt, dirty, mustWait}
 use Rattle.terms.specs.declared.Mark.{Mark}
 use Rattle.ties.specs.declared.Fate.the-variants.{Committed as FateCommitted, Aborted as FateAborted}
 use Rattle.ties.specs.declared.Ops.{Ops}
@@ -45,6 +47,12 @@ inactive ts t = not (isActive (phaseOf ts t))
 -- "neither S nor an undo gives or receives a delegation"
 abbrev pub noParty : Sort → Bool
 noParty x = isSaga x || isUndo x
+
+abbrev pub activeUndo : Tables → List Transaction → ℕ → Bool
+activeUndo tables ts u = isUndo (sortOf tables u) && isActive (phaseOf ts u)
+
+unfoldable pub activeUndos : Tables → List Transaction → ℕ
+activeUndos tables ts = setOf mostTransactions (activeUndo tables ts)
 
 -- ---- the lines of each event
 
@@ -82,6 +90,7 @@ operationLines tables ts ops t o m =
     ∷ line NeverDoes (isSaga (sortOf tables t))
     ∷ line NotActive (inactive ts t)
     ∷ line MustWait (isUndo (sortOf tables t) && mustWait ops t o m)
+    ∷ line UndoOnRing (ringWith (beforeMade ops (newOp t o m)) (activeUndo tables ts) t)
     ∷ line Full (leb mostOperations (ops .count))
     ∷ []
 
@@ -92,6 +101,7 @@ delegateLines tables ts ops t r q =
     ∷ line NeverDoes (noParty (sortOf tables t) || (noParty (sortOf tables r) || eqb t r))
     ∷ line NotActive (inactive ts t || inactive ts r)
     ∷ line NotResponsible (not (eqb (opAt ops q .responsible) t))
+    ∷ line UndoOnRing (isActiveOperation (opAt ops q .fate) && ringWith (beforeGiven ops q r) (activeUndo tables ts) r)
     ∷ []
 
 -- the commit and the abort of one operation, "for plain transactions only": what both have to pass

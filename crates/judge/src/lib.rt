@@ -12,11 +12,12 @@ use ties::Operation;
 use ties::Ops;
 ghost use mathlib.Core.Path.{_≡_};
 ghost use mathlib.Core.Bool.{_&&_};
-ghost use Rattle.ties.specs.Ties.{mustWait};
+ghost use Rattle.ties.specs.Operations.{isActive as isActiveOperation};
+ghost use Rattle.ties.specs.Ties.{beforeMade, beforeGiven, ringWith, mustWait};
 ghost use Rattle.tables.specs.Sorts.{isUndo};
 ghost use Rattle.judge.specs.States.{isIdle, isActive, isCommitted, isAborted, emptyState, phaseOf, own, inPhase, entered};
 ghost use Rattle.judge.specs.Rules.{stepBegins, undoBegins, beginBarred, commitBarred, abortBarred, commitBars, beginBars, kindBars, declaredBars};
-ghost use Rattle.judge.specs.Judge.{beginLines, commitLines, abortLines, operationLines, delegateLines, singleLines, commitOneLines, verdictBy, noParty, changeOf, ruledBy, refusedBy, rulingOf, stateAfter, judged};
+ghost use Rattle.judge.specs.Judge.{beginLines, commitLines, abortLines, operationLines, delegateLines, singleLines, commitOneLines, verdictBy, noParty, activeUndo, activeUndos, changeOf, ruledBy, refusedBy, rulingOf, stateAfter, judged};
 ghost use Rattle.terms.specs.declared.Event.the-variants.{Begin, Commit, Abort, Operation as Invoke, Delegate, CommitOne, AbortOne};
 
 // How a transaction stands.
@@ -312,6 +313,68 @@ fn undo_waits(sort: Sort, ops: Ops, t: usize, object: usize, mark: Mark) -> bool
     false
 }
 
+// The set of undos that are active; they are among the numbers that sagas own.
+fn active_undos(tables: Tables, transactions: [Transaction; Book::TRANSACTIONS]) -> u64
+    ensures { λ r. ⌜ r ≡ activeUndos tables transactions ⌝ }
+{
+    let past = tables::saga_at(tables, Book::SAGAS);
+    let owned = past.first as usize;
+    let mut set: u64 = 0;
+    let mut t: usize = 0;
+    while t < owned {
+        if Book::TRANSACTIONS <= t {
+            return set;
+        }
+        let x = transactions[t];
+        let phase = x.phase;
+        if phase.is_active() {
+            let sort = tables::sort_of(tables, t);
+            if sort.is_undo() {
+                set = sets::with_member(set, t);
+            }
+        }
+        t += 1;
+    }
+    set
+}
+
+// Whether this operation, if it is invoked, puts an active undo on a ring; without an active undo nothing is searched.
+fn rings_an_undo(
+    tables: Tables,
+    transactions: [Transaction; Book::TRANSACTIONS],
+    ops: Ops,
+    op: Operation,
+) -> bool
+    ensures { λ r. ⌜ r ≡ ringWith (beforeMade ops op) (activeUndo tables transactions) (op .responsible) ⌝ }
+{
+    let undos = active_undos(tables, transactions);
+    if undos == 0 {
+        return false;
+    }
+    rings::ring_made(ops, op, undos)
+}
+
+// Whether operation q, which stands so, puts an active undo on a ring if it is given to a receiver; one that has ended does not.
+fn gives_a_ring(
+    tables: Tables,
+    transactions: [Transaction; Book::TRANSACTIONS],
+    ops: Ops,
+    q: usize,
+    fate: Fate,
+    receiver: u16,
+) -> bool
+    ensures { λ r. ⌜ r ≡ (isActiveOperation fate && ringWith (beforeGiven ops q receiver) (activeUndo tables transactions) receiver) ⌝ }
+{
+    if !fate.is_active() {
+        return false;
+    }
+    let undos = active_undos(tables, transactions);
+    if undos == 0 {
+        return false;
+    }
+    rings::ring_given(ops, q, receiver, undos)
+}
+
 // A refused event changes nothing.
 fn refused(refusal: Refusal) -> Ruling
     ensures { λ r. ⌜ r ≡ refusedBy refusal ⌝ }
@@ -370,7 +433,7 @@ fn commit(
     if ops.dirty(t) {
         return refused(Refusal::DirtyRead);
     }
-    if ops.on_ring(t) {
+    if rings::on_ring(ops, t) {
         return refused(Refusal::OnRing);
     }
     Ruling {
@@ -428,16 +491,21 @@ fn operation(
     if undo_waits(sort, ops, t, object, mark) {
         return refused(Refusal::MustWait);
     }
-    if Operation::MOST <= count {
-        return refused(Refusal::Full);
-    }
+    let on = object as u8;
+    let by = t as u16;
     let op = Operation {
-        object: object as u8,
+        object: on,
         mark,
-        responsible: t as u16,
+        responsible: by,
         fate: Fate::Active,
         ended: 0,
     };
+    if rings_an_undo(tables, transactions, ops, op) {
+        return refused(Refusal::UndoOnRing);
+    }
+    if Operation::MOST <= count {
+        return refused(Refusal::Full);
+    }
     Ruling {
         verdict: Verdict::Accepted,
         change: Change::Makes(op),
@@ -473,7 +541,11 @@ fn delegate(
     if responsible != t {
         return refused(Refusal::NotResponsible);
     }
+    let fate = op.fate;
     let to = receiver as u16;
+    if gives_a_ring(tables, transactions, ops, q, fate, to) {
+        return refused(Refusal::UndoOnRing);
+    }
     Ruling {
         verdict: Verdict::Accepted,
         change: Change::Gives(q, to),
@@ -533,7 +605,7 @@ fn commit_one(
     if ops.dirty_one(t, q) {
         return refused(Refusal::DirtyRead);
     }
-    let ringed = ops.on_ring(t);
+    let ringed = rings::on_ring(ops, t);
     if ringed {
         return refused(Refusal::OnRing);
     }

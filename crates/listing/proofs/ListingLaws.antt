@@ -11,7 +11,7 @@ use Rattle.laws.proofs.Decisions.{lt-or}
 use Rattle.terms.specs.Refusals.{numberOf}
 use Rattle.terms.specs.declared.Verdict.{Verdict}
 use Rattle.terms.specs.declared.Verdict.the-variants.{Accepted, Refused}
-use Rattle.ties.specs.Operations.{opAt}
+use Rattle.ties.specs.Operations.{opAt, size}
 use Rattle.terms.specs.declared.Mark.{Mark}
 use Rattle.terms.specs.declared.Mark.the-variants.{Read, Write}
 use Rattle.ties.specs.declared.Fate.{Fate}
@@ -24,7 +24,6 @@ use Rattle.closing.specs.Closing.{outstanding, closing}
 use Rattle.closing.specs.declared.NextStep.{NextStep}
 use Rattle.closing.specs.declared.NextStep.the-variants.{NoStep, ToBegin, ToCommit, ToAbort}
 use Rattle.book.specs.declared.Reading.{Reading}
-use Rattle.ties.specs.Operations.{size}
 use Rattle.tables.specs.Counts.{transactionCount}
 use Rattle.listing.specs.declared.Text.{Text}
 use Rattle.listing.specs.declared.Placed.{Placed}

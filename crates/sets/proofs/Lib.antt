@@ -1,6 +1,5 @@
 -- Laws of sets and of following a relation.
 pub mod SetLaws
 pub mod ReachLaws
-pub mod OutwardLaws
 pub mod RowLaws
 pub mod FollowingHolds

@@ -127,3 +127,40 @@ unfolding leadsTo
 leads-same n R Q h a b =
     ap (λ (rows : List (List Bool)). at (closed n rows) a b)
     (tabulate-same n (λ x. tabulate n (R x)) (λ x. tabulate n (Q x)) (λ x l. tabulate-same n (R x) (Q x) (λ y m. h x y l m)))
+
+-- ---- pairs added at one transaction v
+
+-- whatever Q has and R has not, begins or ends at v
+abbrev pub AddsAt : (ℕ → ℕ → Bool) → (ℕ → ℕ → Bool) → ℕ → Type 0
+AddsAt R Q v = (a b : ℕ) → Q a b ≡ true → (R a b ≡ true) ⊎ ((a ≡ v) ⊎ (b ≡ v))
+
+-- following Q goes by R alone, or through v
+via : {R Q : ℕ → ℕ → Bool} {v : ℕ} → AddsAt R Q v → {a b : ℕ} → Leads Q a b
+    → Leads R a b ⊎ (((a ≡ v) ⊎ Leads Q a v) × ((b ≡ v) ⊎ Leads Q v b))
+via {Q = Q} f {a} {b} (Leads.last h) =
+    ⊎-elim (λ r. inl (Leads.last r))
+    (⊎-elim
+    (λ e. inr (inl e, inr (Leads.last (subst (λ (x : ℕ). Q x b ≡ true) e h))))
+    (λ e. inr (inr (Leads.last (subst (λ (x : ℕ). Q a x ≡ true) e h)), inl e)))
+    (f a b h)
+via {Q = Q} {v = v} f {a} {b} (Leads.step {b = c} h w) =
+    ⊎-elim
+    (λ r.
+    ⊎-elim (λ s. inl (Leads.step s r))
+    (⊎-elim
+    (λ e. inr (inl e, inr (Leads.step (subst (λ (x : ℕ). Q x c ≡ true) e h) w)))
+    (λ e. inr (inr (Leads.last (subst (λ (x : ℕ). Q a x ≡ true) e h)), inr (subst (λ (x : ℕ). Leads Q x b) e w))))
+    (f a c h))
+    (λ m. inr (inr (⊎-elim (λ e. Leads.last (subst (λ (x : ℕ). Q a x ≡ true) e h)) (λ x. Leads.step h x) (m .0)), m .1))
+    (via f w)
+
+-- a ring of Q is one of R, or goes through v
+pub ring-via : {R Q : ℕ → ℕ → Bool} {v : ℕ} → AddsAt R Q v → {u : ℕ} → Leads Q u u → Leads R u u ⊎ (Leads Q v u × Leads Q u v)
+ring-via {Q = Q} {v = v} f {u} w =
+    ⊎-elim inl
+    (λ m.
+    ⊎-elim
+    (λ e. inr (subst (λ (x : ℕ). Leads Q x u) e w, subst (λ (x : ℕ). Leads Q u x) e w))
+    (λ to. ⊎-elim (λ e. inr (subst (λ (x : ℕ). Leads Q x u) e w, subst (λ (x : ℕ). Leads Q u x) e w)) (λ from. inr (from, to)) (m .1))
+    (m .0))
+    (via f w)

@@ -12,10 +12,10 @@ use borrow.Author.Tests.{lt-ltb, le-ltb, eq-eqb, ne-eqb}
 use Rattle.terms.specs.Limits.{mostTransactions}
 use lib.Pow.{pow-mono, pow-pos, pow-lt}
 use lib.Arith.{lt-one}
-use lib.Bits.{bitOr, bitAnd, bitXor, or-shr, or-mod, or-add-and, or-disjoint, and-le-r, or-lt, and-lt, and-shr, and-mod, xor-shr, xor-mod}
+use lib.Bits.{bitOr, bitAnd, bitXor, or-shr, or-mod, or-add-and, and-le-r, and-shr, and-mod, xor-shr, xor-mod}
 use lib.Count.{ones, ones-step, trailingZeros, under}
 use Rattle.laws.specs.Index.{one, anyBelow, countBelow, firstBelow}
-use Rattle.laws.proofs.Bools.{bool-cases, clash}
+use Rattle.laws.proofs.Bools.{bool-cases}
 use Rattle.laws.proofs.Decisions.{same-or, lt-or}
 use Rattle.laws.proofs.IndexLaws.{any-elim, off-any}
 use Rattle.laws.proofs.SameLaws.{count-same, first-same}
@@ -152,25 +152,6 @@ same-set (suc n) x y hx hy h =
     let high : x / 2 ≡ y / 2 = same-set n (x / 2) (y / 2) (half-lt n x hx) (half-lt n y hy) (λ t l. sym (mem-half x t) ∙ h (suc t) (suc-le-suc l) ∙ mem-half y t) in
     sym (div-add-mod' x 2) ∙ ap₂ (λ (q r : ℕ). q * 2 + r) high low ∙ div-add-mod' y 2
 
--- ---- sets compared as numbers
-
-module _ (x y : ℕ) (hx : x < 2 ^ 64) (hy : y < 2 ^ 64) where
-  -- a set with no member but another's, and not all of those
-  pub fewer-lt : ((k : ℕ) → mem x k ≡ true → mem y k ≡ true) → (a : ℕ) → mem x a ≡ false → mem y a ≡ true → x < y
-  fewer-lt within a out here =
-      let union : bitOr x y ≡ y = same-set 64 (bitOr x y) y (or-lt 64 x y hx hy) hy (λ t l. mem-union x y t ∙ both t) in
-      let less : x ≤ y = subst (λ (n : ℕ). x ≤ n) union (union-le x y) in
-      let other : x ≢ y = λ e. clash here (ap (λ (n : ℕ). mem n a) (sym e) ∙ out) in
-      omega arith
-    where
-      both : (t : ℕ) → (mem x t || mem y t) ≡ mem y t
-      both t = bool-cases (mem x t) (λ e. rw e (sym (within t e))) (λ e. rw e)
-
-  -- two sets that share nothing are added
-  pub apart-sum : ((k : ℕ) → (mem x k && mem y k) ≡ false) → bitOr x y ≡ x + y
-  apart-sum h =
-      or-disjoint x y (same-set 64 (bitAnd x y) 0 (and-lt 64 x y hx hy) (pow-pos 64) (λ t l. mem-both x y t ∙ h t ∙ sym (mem-empty t)))
-
 -- ---- the counts: `count_ones` and `trailing_zeros` of a set
 
 digit-one : (u : ℕ) → u < 2 → u ≡ one (eqb u 1)
@@ -265,6 +246,12 @@ module _ (f : ℕ → Bool) (n x : ℕ) (e : x ≡ setOf n f) where
 
   pub set-of-out : f n ≡ false → x ≡ setOf (n + 1) f
   set-of-out h = rw (set-of-more n f, h) e
+
+-- with none from n on, those below n are all
+pub set-of-rest : (f : ℕ → Bool) (n k : ℕ) → ((i : ℕ) → n ≤ i → f i ≡ false) → setOf n f ≡ setOf (n + k) f
+set-of-rest f n zero none = ap (λ (x : ℕ). setOf x f) (omega arith)
+set-of-rest f n (suc k) none =
+    set-of-rest f n k none ∙ set-of-out f (n + k) (setOf (n + k) f) refl (none (n + k) (omega arith)) ∙ ap (λ (x : ℕ). setOf x f) (omega arith)
 
 -- two tests that agree below n: the same set
 pub set-same : (n : ℕ) (f g : ℕ → Bool) → ((i : ℕ) → i < n → f i ≡ g i) → setOf n f ≡ setOf n g

@@ -3,7 +3,6 @@ use terms::Book;
 ghost use mathlib.Core.Path.{_≡_};
 ghost use mathlib.Core.Bool.{not, _&&_};
 ghost use Prim.Native.Nat.{ℕ};
-ghost use lib.Dec.{eqb};
 ghost use Rattle.laws.specs.Index.{countBelow, firstBelow};
 ghost use Rattle.terms.specs.Limits.{mostTransactions};
 ghost use Rattle.sets.specs.Sets.{mem, inserted};
@@ -33,14 +32,6 @@ pub fn without(set: u64, others: u64) -> u64
     ensures { λ r. ⌜ ((k : ℕ) → mem r k ≡ (mem set k && not (mem others k))) ⌝ }
 {
     set ^ (set & others)
-}
-
-// The set without t.
-pub fn without_member(set: u64, t: usize) -> u64
-    ensures { λ r. ⌜ ((k : ℕ) → mem r k ≡ (mem set k && not (eqb k t))) ⌝ }
-{
-    let only = with_member(0, t);
-    without(set, only)
 }
 
 // How many are in the set.

@@ -3,18 +3,17 @@ use Prim.Native.Nat.{ℕ, _+_, _*_, _-_, _≤_, _<_, min}
 use native.Mathlib.Numerals.{add-one}
 use native.Mathlib.Omega.{arith}
 use mathlib.Core.Path.{_≡_, refl, sym, ap, _∙_}
-use mathlib.Core.Bool.{cond, _&&_}
+use mathlib.Core.Bool.{cond, false}
 use mathlib.Core.List.{List, [], _∷_, _++_}
 use lib.ListN.{length, getD, take, drop, length-take, drop-of-length-le, List·getD-eq-default}
 use lib.Seq.{drop-cons, getD-take, take-suc, take-all}
 use lib.Dec.{ltb}
 use borrow.Author.Tests.{lt-ltb, le-ltb, le-leb, lt-leb, eq-eqb, ne-eqb}
-use Rattle.terms.specs.Limits.{mostSagas, mostTransactions}
+use Rattle.laws.proofs.Bools.{bool-cases}
+use Rattle.terms.specs.Limits.{mostSagas}
 use Rattle.terms.specs.declared.Saga.{Saga}
 use Rattle.sets.specs.Reach.{at}
-use Rattle.sets.specs.Sets.{mem}
-use Rattle.sets.proofs.SetLaws.{mem-set-of}
-use Rattle.tables.specs.Sorts.{firstOf, isUndo, ownedBy, placeOf, sagaOf, sagasOf, sortFrom, sortOf, stepsOf, undosOf}
+use Rattle.tables.specs.Sorts.{firstOf, isUndo, ownedBy, placeOf, sagaOf, sagasOf, sortFrom, sortOf, stepsOf}
 use Rattle.tables.specs.declared.Sort.the-variants.{Plain, Saga as SagaItself, Step, Undo, Unknown}
 use Rattle.tables.specs.declared.Tables.{Tables}
 
@@ -115,12 +114,16 @@ module _ (tables : Tables) (full : length (tables .steps) ≡ mostSagas) (i : �
       let n : stepsOf tables i ≡ 0 = List·getD-eq-default (sagasOf tables) 0 {n = i} b in
       λ j. record { first = q j; steps = sym n j }
 
--- ---- the set of all undos
-
-pub mem-undos : (tables : Tables) (t : ℕ) → mem (undosOf tables) t ≡ (ltb t mostTransactions && isUndo (sortOf tables t))
-unfolding undosOf
-mem-undos tables t = mem-set-of mostTransactions (λ k. isUndo (sortOf tables k)) t (omega arith)
-
 -- past the last saga stands what all sagas own
 pub owned-past : (tables : Tables) → length (tables .steps) ≡ mostSagas → firstOf tables mostSagas ≡ ownedBy (sagasOf tables)
 owned-past tables e = ap ownedBy (take-all mostSagas (sagasOf tables) (simp length-take (omega arith)))
+
+-- and there is no undo there
+past-no-undo : (ns : List ℕ) (f p t : ℕ) → f + ownedBy ns ≤ t → isUndo (sortFrom ns f p t) ≡ false
+unfolding sortFrom ownedBy
+past-no-undo [] f p t h = bool-cases (ltb t (f + p)) (λ e. rw e) (λ e. rw e)
+past-no-undo (n ∷ ns) f p t h = rw (le-ltb t (f + 2 * n) (omega arith)) (past-no-undo ns (f + 2 * n) p t (omega arith))
+
+pub undo-owned : (tables : Tables) (t : ℕ) → ownedBy (sagasOf tables) ≤ t → isUndo (sortOf tables t) ≡ false
+unfolding sortOf
+undo-owned tables t h = past-no-undo (sagasOf tables) 0 (tables .plain) t (omega arith)

@@ -5,9 +5,7 @@ use mathlib.Core.Bool.{Bool, true, false, cond}
 use mathlib.Core.List.{List, [], _∷_}
 use lib.ListN.{getD, take}
 use lib.Dec.{ltb, leb, eqb}
-use Rattle.terms.specs.Limits.{mostTransactions}
 use Rattle.terms.specs.declared.Saga.{Saga}
-use Rattle.sets.specs.Sets.{setOf}
 use Rattle.tables.specs.declared.Tables.{Tables}
 use Rattle.tables.specs.declared.Sort.{Sort}
 use Rattle.tables.specs.declared.Sort.the-variants.{Saga as SagaItself, Step, Undo, Plain, Unknown}
@@ -57,10 +55,6 @@ isPlain (Step f n i) = false
 isPlain (Undo f n i) = false
 isPlain Plain = true
 isPlain Unknown = false
-
--- all undos
-unfoldable pub undosOf : Tables → ℕ
-undosOf tables = setOf mostTransactions (λ t. isUndo (sortOf tables t))
 
 -- ---- sagas by their index
 

@@ -11,7 +11,7 @@ ghost use lib.ListN.{getD};
 ghost use Rattle.terms.specs.Limits.{mostSagas, mostTransactions, mostDependencies};
 ghost use Rattle.sets.specs.Reach.{leadsTo};
 ghost use Rattle.sets.specs.Sets.{mem};
-ghost use Rattle.tables.specs.Sorts.{placeOf, sortOf, isKnown, isSaga, isUndo, isPlain, undosOf, sagaOf};
+ghost use Rattle.tables.specs.Sorts.{placeOf, sortOf, isKnown, isSaga, isUndo, isPlain, sagaOf};
 ghost use Rattle.tables.specs.Counts.{sagaCount, transactionCount, objectCount, dependencyCount};
 ghost use Rattle.tables.specs.Dependencies.{kindNumber, kindOf, mayBase, mayDepend, allowed, risesFrom, risesTo, entryHolds};
 ghost use Rattle.tables.specs.Circles.{isBeginKind, beginLink, hasCircle};
@@ -336,22 +336,6 @@ pub fn saga_at(tables: Tables, index: usize) -> Saga
         first: first as u16,
         steps: 0,
     }
-}
-
-// The set of all undos.
-pub fn undos(tables: Tables) -> u64
-    ensures { λ r. ⌜ r ≡ undosOf tables ⌝ }
-{
-    let mut set: u64 = 0;
-    let mut t: usize = 0;
-    while t < Book::TRANSACTIONS {
-        let sort = sort_of(tables, t);
-        if sort.is_undo() {
-            set = sets::with_member(set, t);
-        }
-        t += 1;
-    }
-    set
 }
 
 // The steps of `count` sagas, with the running sum of what they own.

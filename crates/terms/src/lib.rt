@@ -111,6 +111,7 @@ pub enum Refusal {
     NoRoom,
     AlreadyEnded,
     NeverMoves,
+    UndoOnRing,
 }
 
 impl Refusal {
@@ -140,6 +141,7 @@ impl Refusal {
             Refusal::NoRoom => 19,
             Refusal::AlreadyEnded => 20,
             Refusal::NeverMoves => 21,
+            Refusal::UndoOnRing => 22,
         }
     }
 }

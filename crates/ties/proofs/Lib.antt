@@ -2,6 +2,7 @@
 pub mod OpsLaws
 pub mod TieLaws
 pub mod TableLaws
-pub mod VisitLaws
 pub mod RingLaws
+pub mod OrderLaws
 pub mod RingsExactHolds
+pub mod DirtyStaysHolds

@@ -1,45 +1,33 @@
--- Rings: t is on one exactly when following ties leads from it back to it, and working outward from t finds out.
-use Prim.Native.Nat.{ℕ, _≤_}
-use native.Mathlib.Omega.{arith}
-use mathlib.Core.Path.{_≡_, sym, ap, _∙_}
+-- Rings: t is on one exactly when following ties leads from it back to it; and over any operations, led to and computed.
+use Prim.Native.Nat.{ℕ}
+use mathlib.Core.Path.{_≡_, sym, _∙_}
 use mathlib.Core.Bool.{true, false}
 use Rattle.laws.proofs.Bools.{is-not, clash}
 use Rattle.terms.specs.Limits.{mostTransactions}
-use Rattle.sets.specs.Reach.{Leads}
-use Rattle.sets.specs.Sets.{mem}
+use Rattle.sets.specs.Reach.{Leads, leadsTo}
 use Rattle.sets.proofs.ReachLaws.{leads-more, computed-leads, leads-computed, last-step}
-use Rattle.sets.proofs.SetLaws.{mem-empty}
-use Rattle.sets.proofs.OutwardLaws.{Outward, outward-closed, outward-back}
+use Rattle.ties.specs.declared.Operation.{Operation}
 use Rattle.ties.specs.declared.Ops.{Ops}
-use Rattle.ties.specs.Ties.{before, preceded, onRing}
-use Rattle.ties.proofs.TieLaws.{before-small, before-among, unpreceded}
+use Rattle.ties.specs.Operations.{opAt, size}
+use Rattle.ties.specs.Ties.{tiesOf, before, onRing}
+use Rattle.ties.proofs.TieLaws.{ties-among}
+
+module _ (n : ℕ) (op : ℕ → Operation) (a b : ℕ) where
+  pub leads-of : leadsTo mostTransactions (tiesOf n op) a b ≡ true → Leads (tiesOf n op) a b
+  leads-of h = leads-more (λ x y e. sym (ties-among n op x y) ∙ e) (computed-leads mostTransactions (tiesOf n op) a b h)
+
+  pub of-leads : Leads (tiesOf n op) a b → leadsTo mostTransactions (tiesOf n op) a b ≡ true
+  of-leads w = leads-computed mostTransactions (tiesOf n op) a b (leads-more (λ x y e. ties-among n op x y ∙ e) w)
 
 module _ (ops : Ops) (t : ℕ) where
   pub ring-leads : onRing ops t ≡ true → Leads (before ops) t t
   unfolding onRing
-  ring-leads h = leads-more (λ a b e. sym (before-among ops a b) ∙ e) (computed-leads mostTransactions (before ops) t t h)
+  ring-leads h = leads-of (size ops) (opAt ops) t t h
 
   pub leads-ring : Leads (before ops) t t → onRing ops t ≡ true
   unfolding onRing
-  leads-ring w = leads-computed mostTransactions (before ops) t t (leads-more (λ a b e. before-among ops a b ∙ e) w)
+  leads-ring w = of-leads (size ops) (opAt ops) t t w
 
   -- nothing stands before t
   pub ring-free : ((a : ℕ) → before ops a t ≡ false) → onRing ops t ≡ false
   ring-free f = is-not (onRing ops t) (λ e. let s = last-step (ring-leads e) in clash (s .1) (f (s .0)))
-
-  -- no tie leads to t
-  pub ring-unpreceded : preceded ops t ≡ false → onRing ops t ≡ false
-  ring-unpreceded e = ring-free (unpreceded ops t e)
-
-  -- t is no transaction
-  pub ring-late : mostTransactions ≤ t → onRing ops t ≡ false
-  ring-late h = ring-free (λ a. is-not (before ops a t) (λ e. omega (arith, before-small ops a t e)))
-
-  -- working outward, with nothing left to visit
-  pub ring-none : (x w : ℕ) → Outward (before ops) t x w → w ≡ 0 → onRing ops t ≡ false
-  ring-none x w o e =
-      is-not (onRing ops t) (λ h. outward-closed (before ops) t x w o (λ k. ap (λ (n : ℕ). mem n k) e ∙ mem-empty k) (ring-leads h))
-
-  -- one to visit stands before t
-  pub ring-met : (x w : ℕ) → Outward (before ops) t x w → (a f : ℕ) → mem w a ≡ true → ((k : ℕ) → mem f k ≡ before ops a k) → mem f t ≡ true → onRing ops t ≡ true
-  ring-met x w o a f here found h = leads-ring (outward-back (before ops) t x w o a f here found h)

@@ -1,62 +1,63 @@
 -- Ties between operations (docs/RULES.md, 3 Ties).
-use Prim.Native.Nat.{ℕ}
-use mathlib.Core.Bool.{Bool, not, _&&_, _||_}
+use Prim.Native.Nat.{ℕ, _+_}
+use mathlib.Core.Bool.{Bool, cond, not, _&&_, _||_}
 use mathlib.Core.List.{List}
-use lib.Dec.{ltb, eqb}
+use lib.Dec.{ltb, leb, eqb}
 use Rattle.laws.specs.Index.{anyBelow, grid}
-use Rattle.terms.specs.Limits.{mostTransactions}
+use Rattle.terms.specs.Limits.{mostTransactions, mostObjects}
 use Rattle.sets.specs.Reach.{leadsTo}
 use Rattle.terms.specs.declared.Mark.{Mark}
 use Rattle.terms.specs.Events.{isWrite}
 use Rattle.ties.specs.declared.Operation.{Operation}
 use Rattle.ties.specs.declared.Ops.{Ops}
-use Rattle.ties.specs.Operations.{isAborted, isActive, isCommitted, opAt, size}
+use Rattle.ties.specs.Operations.{isAborted, isActive, isCommitted, opAt, size, given}
 
--- ---- "Operations p and q, p earlier, on the same object, at least one a write, are tied if p was active when q was accepted."
+-- ---- "q is tied to every earlier conflicting operation not aborted when q is accepted"
 
 -- the same object, at least one a write
 abbrev pub conflict : Operation → ℕ → Mark → Bool
 conflict p object mark = eqb (p .object) object && (isWrite (p .mark) || isWrite mark)
 
--- p was active when the operation numbered j was accepted: it is active still, or ended later
-abbrev pub wasActive : Operation → ℕ → Bool
-wasActive p j = isActive (p .fate) || ltb j (p .ended)
+-- p was not aborted when the operation numbered j was accepted: it is not aborted now, or was aborted later
+abbrev pub stood : Operation → ℕ → Bool
+stood p j = not (isAborted (p .fate)) || ltb j (p .ended)
 
 -- p, which is earlier, is tied to q, which is numbered j
 unfoldable pub tiedTo : Operation → Operation → ℕ → Bool
-tiedTo p q j = conflict p (q .object) (q .mark) && wasActive p j
+tiedTo p q j = conflict p (q .object) (q .mark) && stood p j
 
 -- operation p is tied to the later operation q, by their numbers
 unfoldable pub tied : Ops → ℕ → ℕ → Bool
 tied ops p q = ltb q (size ops) && (ltb p q && tiedTo (opAt ops p) (opAt ops q) q)
 
--- ---- "Order: while neither is aborted and their responsible transactions differ, p's stands before q's."
+-- ---- "Order: while neither is aborted and their responsible transactions differ, p's stands before q's." Abort is final, so of two
+-- conflicting operations that are not aborted the earlier is always tied to the later.
 
-abbrev pub neitherAborted : Operation → Operation → Bool
-neitherAborted p q = not (isAborted (p .fate) || isAborted (q .fate))
+-- it does not count for the order: it is aborted, or its numbers are past the limits, which in no book they are
+abbrev pub isGone : Operation → Bool
+isGone op = isAborted (op .fate) || (leb mostTransactions (op .responsible) || leb mostObjects (op .object))
+
+abbrev pub neitherGone : Operation → Operation → Bool
+neitherGone p q = not (isGone p || isGone q)
 
 abbrev pub apart : Operation → Operation → Bool
 apart p q = not (eqb (p .responsible) (q .responsible))
 
--- both responsible transactions are among the 64; in a book they always are
-abbrev pub bothOwned : Operation → Operation → Bool
-bothOwned p q = ltb (p .responsible) mostTransactions && ltb (q .responsible) mostTransactions
-
--- the tie of p to q, which is numbered j, counts for the order of transactions
-unfoldable pub counts : Operation → Operation → ℕ → Bool
-counts p q j = tiedTo p q j && (neitherAborted p q && (apart p q && bothOwned p q))
+-- the tie of p to the later q counts for the order of transactions
+unfoldable pub counts : Operation → Operation → Bool
+counts p q = conflict p (q .object) (q .mark) && (neitherGone p q && apart p q)
 
 -- by this tie a stands before b
-unfoldable pub edge : Operation → Operation → ℕ → ℕ → ℕ → Bool
-edge p q j a b = counts p q j && (eqb a (p .responsible) && eqb b (q .responsible))
+unfoldable pub edge : Operation → Operation → ℕ → ℕ → Bool
+edge p q a b = counts p q && (eqb a (p .responsible) && eqb b (q .responsible))
+
+-- of the first n of these operations, one of a is tied to a later one of b
+unfoldable pub tiesOf : ℕ → (ℕ → Operation) → ℕ → ℕ → Bool
+tiesOf n op a b = anyBelow n (λ q. anyBelow q (λ p. edge (op p) (op q) a b))
 
 -- transaction a stands before transaction b by one tie
-unfoldable pub before : Ops → ℕ → ℕ → Bool
-before ops a b = anyBelow (size ops) (λ q. anyBelow q (λ p. edge (opAt ops p) (opAt ops q) q a b))
-
--- some tie leads to t
-unfoldable pub preceded : Ops → ℕ → Bool
-preceded ops t = anyBelow (size ops) (λ q. eqb (opAt ops q .responsible) t && anyBelow q (λ p. counts (opAt ops p) (opAt ops q) q))
+abbrev pub before : Ops → ℕ → ℕ → Bool
+before ops = tiesOf (size ops) (opAt ops)
 
 -- "for every ordered pair of transactions, whether the first stands before the second by one tie"
 unfoldable pub pairsOf : Ops → List (List Bool)
@@ -67,8 +68,26 @@ pairsOf ops = grid mostTransactions (before ops)
 unfoldable pub onRing : Ops → ℕ → Bool
 onRing ops t = leadsTo mostTransactions (before ops) t t
 
--- ---- "Dirty read: t commits only if, for each read q it is responsible for and each write p tied before q, p is committed or t is
--- responsible for p. An aborted p bars it for good." A p of t's own that has aborted, and a read that has, occur in no commit of the base.
+-- ---- "an operation or delegation that would put an active undo on a ring is refused"
+
+-- the operations, with x read at the place `at`
+abbrev pub opWith : Ops → ℕ → Operation → ℕ → Operation
+opWith ops at x i = cond (eqb i at) x (opAt ops i)
+
+-- who stands before whom, with x behind the last operation
+abbrev pub beforeMade : Ops → Operation → ℕ → ℕ → Bool
+beforeMade ops x = tiesOf (size ops + 1) (opWith ops (size ops) x)
+
+-- the same with operation q given to a receiver
+abbrev pub beforeGiven : Ops → ℕ → ℕ → ℕ → ℕ → Bool
+beforeGiven ops q receiver = before (given q receiver ops)
+
+-- one of some and v lead to each other; every pair that the event adds is one of v's
+unfoldable pub ringWith : (ℕ → ℕ → Bool) → (ℕ → Bool) → ℕ → Bool
+ringWith R some v = anyBelow mostTransactions (λ u. some u && (leadsTo mostTransactions R v u && leadsTo mostTransactions R u v))
+
+-- ---- "Dirty read: t commits only if, for each read q it is responsible for and each write p tied before q": "p is committed, or is active and
+-- t is responsible for it; a read that was itself aborted bars nothing". "An aborted p bars it for good."
 
 abbrev pub readBy : ℕ → Operation → Bool
 readBy t q = eqb (q .responsible) t && (not (isWrite (q .mark)) && not (isAborted (q .fate)))

@@ -1,12 +1,11 @@
-// Accepted operations, how they end and change hands, and the ties between them.
+// Accepted operations, how they end and change hands, the ties between them, and dirty reads.
 use terms::Book;
 use terms::Mark;
 ghost use mathlib.Core.Path.{_≡_};
 ghost use Prim.Native.Nat.{_+_, _≤_, _<_};
 ghost use Rattle.laws.specs.Index.{anyBelow};
-ghost use Rattle.terms.specs.Limits.{mostTransactions};
-ghost use Rattle.ties.specs.Operations.{isAborted, isActive, isCommitted, mostOperations, noOps, size, made, givenTo, given, endedAlone, endedOne, endedBy, endedOps};
-ghost use Rattle.ties.specs.Ties.{conflict, tiedTo, tied, counts, before, pairsOf, preceded, onRing, readBy, dirties, dirtyAt, dirty, waitsFor, mustWait};
+ghost use Rattle.ties.specs.Operations.{isAborted, isActive, isCommitted, mostOperations, noOperation, noOps, size, made, givenTo, given, endedAlone, endedOne, endedBy, endedOps};
+ghost use Rattle.ties.specs.Ties.{conflict, tiedTo, isGone, counts, pairsOf, readBy, dirties, dirtyAt, dirty, waitsFor, mustWait};
 
 // How an operation stands. A blank place counts as aborted: nothing may end or change it.
 pub enum Fate {
@@ -32,6 +31,19 @@ impl Operation {
         ensures { λ r. ⌜ r ≡ mostOperations ⌝ }
     {
         Operation::MOST
+    }
+
+    // What stands where no operation was accepted.
+    pub fn none() -> Operation
+        ensures { λ r. ⌜ r ≡ noOperation ⌝ }
+    {
+        Operation {
+            object: 0,
+            mark: Mark::Read,
+            responsible: 0,
+            fate: Fate::Aborted,
+            ended: 0,
+        }
     }
 
     // With another responsible transaction, where it is active.
@@ -98,20 +110,28 @@ impl Operation {
         let object = q.object as usize;
         let fate = self.fate;
         let ended = self.ended as usize;
-        self.conflicts(object, mark) & (fate.is_active() | (j < ended))
+        self.conflicts(object, mark) & (!fate.is_aborted() | (j < ended))
     }
 
-    // Whether its tie to q, which is numbered j, counts for the order of transactions.
-    fn counts_with(self, q: Operation, j: usize) -> bool
-        ensures { λ r. ⌜ r ≡ counts self q j ⌝ }
+    // Whether it does not count for the order of transactions: it is aborted, or its numbers are past the limits.
+    pub fn is_gone(self) -> bool
+        ensures { λ r. ⌜ r ≡ isGone self ⌝ }
     {
-        let mine = self.fate;
-        let other = q.fate;
+        let fate = self.fate;
+        let a = self.responsible as usize;
+        let o = self.object as usize;
+        fate.is_aborted() | ((Book::TRANSACTIONS <= a) | (Book::OBJECTS <= o))
+    }
+
+    // Whether its tie to the later q counts for the order of transactions.
+    fn counts_with(self, q: Operation) -> bool
+        ensures { λ r. ⌜ r ≡ counts self q ⌝ }
+    {
+        let mark = q.mark;
+        let object = q.object as usize;
         let a = self.responsible as usize;
         let b = q.responsible as usize;
-        self.tied_to(q, j)
-            & (!(mine.is_aborted() | other.is_aborted())
-                & ((a != b) & ((a < Book::TRANSACTIONS) & (b < Book::TRANSACTIONS))))
+        self.conflicts(object, mark) & (!(self.is_gone() | q.is_gone()) & (a != b))
     }
 
     // Whether it is a read that t answers for.
@@ -188,13 +208,7 @@ impl Ops {
     pub fn none() -> Ops
         ensures { λ r. ⌜ r ≡ noOps ⌝ }
     {
-        let none = Operation {
-            object: 0,
-            mark: Mark::Read,
-            responsible: 0,
-            fate: Fate::Aborted,
-            ended: 0,
-        };
+        let none = Operation::none();
         let all = [none; Operation::MOST];
         Ops { all, count: 0 }
     }
@@ -283,7 +297,7 @@ impl Ops {
             let mut i: usize = 0;
             while i < j {
                 let p = self.all[i];
-                if p.counts_with(q, j) {
+                if p.counts_with(q) {
                     let a = p.responsible as usize;
                     table[a][b] = true;
                 }
@@ -292,85 +306,6 @@ impl Ops {
             j += 1;
         }
         table
-    }
-
-    // Whether a tie leads to t at all; if none does, t is on no ring.
-    fn preceded(self, t: usize) -> bool
-        ensures { λ r. ⌜ r ≡ preceded self t ⌝ }
-    {
-        let n = self.size();
-        let mut j: usize = 0;
-        while j < n {
-            let q = self.all[j];
-            let b = q.responsible as usize;
-            if b == t {
-                let mut i: usize = 0;
-                while i < j {
-                    let p = self.all[i];
-                    if p.counts_with(q, j) {
-                        return true;
-                    }
-                    i += 1;
-                }
-            }
-            j += 1;
-        }
-        false
-    }
-
-    // Whether following ties leads from t back to t: outward from t, each that is reached visited once, until t is met or none is left.
-    fn leads_back(self, t: usize) -> bool
-        requires { ⌜ t < mostTransactions ⌝ }
-        ensures { λ r. ⌜ r ≡ onRing self t ⌝ }
-    {
-        let n = self.size();
-        let mut reached: u64 = 0;
-        let mut waiting = sets::with_member(0, t);
-        while waiting != 0 {
-            let a = sets::lowest(waiting);
-            // Those that a stands before.
-            let mut found: u64 = 0;
-            let mut i: usize = 0;
-            while i < n {
-                let p = self.all[i];
-                let by = p.responsible as usize;
-                if by == a {
-                    let mut j = i + 1;
-                    while j < n {
-                        let q = self.all[j];
-                        let b = q.responsible as usize;
-                        if !sets::member(found, b) {
-                            if p.counts_with(q, j) {
-                                found = sets::with_member(found, b);
-                            }
-                        }
-                        j += 1;
-                    }
-                }
-                i += 1;
-            }
-            if sets::member(found, t) {
-                return true;
-            }
-            let new = sets::without(found, reached);
-            let left = sets::without_member(waiting, a);
-            reached = reached | new;
-            waiting = left | new;
-        }
-        false
-    }
-
-    // Whether t is on a ring.
-    pub fn on_ring(self, t: usize) -> bool
-        ensures { λ r. ⌜ r ≡ onRing self t ⌝ }
-    {
-        if Book::TRANSACTIONS <= t {
-            return false;
-        }
-        if !self.preceded(t) {
-            return false;
-        }
-        self.leads_back(t)
     }
 
     // Whether one of `n` operations, from number `first` on, is a read that t answers for and saw a write that is not clean for t.

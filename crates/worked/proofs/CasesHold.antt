@@ -5,7 +5,7 @@ use Rattle.sets.specs.Reach.{orRow, pivot, closed, leadsTo}
 use Rattle.number.specs.Number.{numberAt, encode, widthOf, numberWithin, rowFrom}
 use Rattle.packing.specs.Fields.{encodes, fieldsBefore}
 use Rattle.ties.specs.Operations.{made, changed, rewritten}
-use Rattle.ties.specs.Ties.{tiedTo, counts, edge, before, onRing, dirtyAt, dirty, mustWait}
+use Rattle.ties.specs.Ties.{tiedTo, counts, edge, tiesOf, onRing, ringWith, dirtyAt, dirty, mustWait}
 use Rattle.tables.specs.Sorts.{placeOf, sortFrom, sortOf, ownedBy}
 use Rattle.tables.specs.Dependencies.{kindOf, risesTo, entryHolds}
 use Rattle.tables.specs.Circles.{beginLink, hasCircle}
@@ -17,16 +17,20 @@ use Rattle.closing.specs.Closing.{activeStep, toUndo, nextUndo, outstanding, cl
 use Rattle.items.specs.Items.{codeOf, eventFrom, itemAt, itemsFrom, itemsAfter}
 use Rattle.book.specs.Reading.{judgeAll, readingBy}
 use Rattle.book.specs.Packing.{writeOutcome}
-use Rattle.worked.specs.Cases.{PCasesHold, NoLineDead, CircleCases, times}
+use Rattle.worked.specs.Cases.{PCasesHold, NoLineDead, CircleCases, OrderCases, times}
 
 pub p-cases-hold : PCasesHold
-unfolding anyBelow highest sumTo tabulate orRow pivot closed leadsTo numberAt made changed rewritten tiedTo counts edge before onRing dirtyAt dirty mustWait placeOf sortFrom sortOf ownedBy kindOf risesTo entryHolds emptyTables rowFrom numberWithin sagasFrom entryAt beginLink hasCircle dependenciesFrom unlessCircle restFrom tablesBy entered declaredBars rulingOf stateAfter judged activeStep toUndo nextUndo outstanding closing codeOf eventFrom itemAt itemsFrom itemsAfter judgeAll readingBy
+unfolding anyBelow highest sumTo tabulate orRow pivot closed leadsTo numberAt made changed rewritten tiedTo counts edge tiesOf onRing ringWith dirtyAt dirty mustWait placeOf sortFrom sortOf ownedBy kindOf risesTo entryHolds emptyTables rowFrom numberWithin sagasFrom entryAt beginLink hasCircle dependenciesFrom unlessCircle restFrom tablesBy entered declaredBars rulingOf stateAfter judged activeStep toUndo nextUndo outstanding closing codeOf eventFrom itemAt itemsFrom itemsAfter judgeAll readingBy
 p-cases-hold = refl
 
 pub no-line-dead : NoLineDead
-unfolding anyBelow highest sumTo tabulate orRow pivot closed leadsTo numberAt encode widthOf encodes fieldsBefore made changed rewritten tiedTo counts edge before onRing dirtyAt dirty mustWait placeOf sortFrom sortOf ownedBy kindOf risesTo entryHolds emptyTables rowFrom numberWithin sagasFrom entryAt beginLink hasCircle dependenciesFrom unlessCircle restFrom tablesBy entered declaredBars rulingOf stateAfter judged codeOf eventFrom itemAt itemsFrom itemsAfter judgeAll readingBy writeOutcome times
+unfolding anyBelow highest sumTo tabulate orRow pivot closed leadsTo numberAt encode widthOf encodes fieldsBefore made changed rewritten tiedTo counts edge tiesOf onRing ringWith dirtyAt dirty mustWait placeOf sortFrom sortOf ownedBy kindOf risesTo entryHolds emptyTables rowFrom numberWithin sagasFrom entryAt beginLink hasCircle dependenciesFrom unlessCircle restFrom tablesBy entered declaredBars rulingOf stateAfter judged codeOf eventFrom itemAt itemsFrom itemsAfter judgeAll readingBy writeOutcome times
 no-line-dead = record { by-books = refl; by-writing = refl }
 
 pub circle-cases : CircleCases
-unfolding anyBelow highest sumTo tabulate orRow pivot closed leadsTo numberAt made changed rewritten tiedTo counts edge before onRing dirtyAt dirty mustWait placeOf sortFrom sortOf ownedBy kindOf risesTo entryHolds emptyTables rowFrom numberWithin sagasFrom entryAt beginLink hasCircle dependenciesFrom unlessCircle restFrom tablesBy entered declaredBars rulingOf stateAfter judged codeOf eventFrom itemAt itemsFrom itemsAfter judgeAll readingBy
+unfolding anyBelow highest sumTo tabulate orRow pivot closed leadsTo numberAt made changed rewritten tiedTo counts edge tiesOf onRing ringWith dirtyAt dirty mustWait placeOf sortFrom sortOf ownedBy kindOf risesTo entryHolds emptyTables rowFrom numberWithin sagasFrom entryAt beginLink hasCircle dependenciesFrom unlessCircle restFrom tablesBy entered declaredBars rulingOf stateAfter judged codeOf eventFrom itemAt itemsFrom itemsAfter judgeAll readingBy
 circle-cases = record { refused = refl; permitted = refl; through-others = refl; not-by-kind-3 = refl }
+
+pub order-cases : OrderCases
+unfolding anyBelow highest sumTo tabulate orRow pivot closed leadsTo numberAt made changed rewritten tiedTo counts edge tiesOf onRing ringWith dirtyAt dirty mustWait placeOf sortFrom sortOf ownedBy kindOf risesTo entryHolds emptyTables rowFrom numberWithin sagasFrom entryAt beginLink hasCircle dependenciesFrom unlessCircle restFrom tablesBy entered declaredBars rulingOf stateAfter judged codeOf eventFrom itemAt itemsFrom itemsAfter judgeAll readingBy
+order-cases = record { through-committed = refl; bars-undo = refl }

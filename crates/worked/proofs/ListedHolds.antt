@@ -4,7 +4,7 @@ use Rattle.laws.specs.Index.{anyBelow, highest, sumTo, tabulate}
 use Rattle.sets.specs.Reach.{orRow, pivot, closed, leadsTo}
 use Rattle.number.specs.Number.{numberAt, numberWithin, rowFrom}
 use Rattle.ties.specs.Operations.{made, changed, rewritten}
-use Rattle.ties.specs.Ties.{tiedTo, counts, edge, before, onRing, dirtyAt, dirty, mustWait}
+use Rattle.ties.specs.Ties.{tiedTo, counts, edge, tiesOf, onRing, ringWith, dirtyAt, dirty, mustWait}
 use Rattle.tables.specs.Sorts.{placeOf, sortFrom, sortOf, ownedBy}
 use Rattle.tables.specs.Dependencies.{kindOf, risesTo, entryHolds}
 use Rattle.tables.specs.Circles.{beginLink, hasCircle}
@@ -20,5 +20,5 @@ use Rattle.listing.specs.Lines.{lineCount, laterLine, lineOf}
 use Rattle.worked.specs.Listed.{joined, ListingHolds}
 
 pub listing-holds : ListingHolds
-unfolding anyBelow highest sumTo tabulate orRow pivot closed leadsTo numberAt made changed rewritten tiedTo counts edge before onRing dirtyAt dirty mustWait placeOf sortFrom sortOf ownedBy kindOf risesTo entryHolds emptyTables rowFrom numberWithin sagasFrom entryAt beginLink hasCircle dependenciesFrom unlessCircle restFrom tablesBy entered declaredBars rulingOf stateAfter judged activeStep toUndo nextUndo outstanding closing codeOf eventFrom itemAt itemsFrom itemsAfter judgeAll readingBy digitsFrom decimal lineCount laterLine lineOf joined
+unfolding anyBelow highest sumTo tabulate orRow pivot closed leadsTo numberAt made changed rewritten tiedTo counts edge tiesOf onRing ringWith dirtyAt dirty mustWait placeOf sortFrom sortOf ownedBy kindOf risesTo entryHolds emptyTables rowFrom numberWithin sagasFrom entryAt beginLink hasCircle dependenciesFrom unlessCircle restFrom tablesBy entered declaredBars rulingOf stateAfter judged activeStep toUndo nextUndo outstanding closing codeOf eventFrom itemAt itemsFrom itemsAfter judgeAll readingBy digitsFrom decimal lineCount laterLine lineOf joined
 listing-holds = refl

@@ -102,7 +102,11 @@ pCases =
 abbrev pub PCasesHold : Type 0
 PCasesHold = map (λ (c : Case). answerTo (c .question)) pCases ≡ map (λ (c : Case). c .answer) pCases
 
--- ---- no line of the table of refusals is dead: for each number from 2 to 18, and for 20 and 21, a book that gets it
+-- ---- no line of the table of refusals is dead: for each number from 2 to 18, and for 20 to 22, a book that gets it
+
+-- a saga of 2 steps, whose C1 is 3, and plain 4 to 6: 4 reads a; 5 writes a, writes b and commits; 3 reads b and writes c; 4 writes c
+abbrev barsUndo : List ℕ
+barsUndo = 0x01 ∷ 0x01 ∷ 0x02 ∷ 0x03 ∷ 0x03 ∷ 0x00 ∷ 0x01 ∷ 0x00 ∷ 0x01 ∷ 0x01 ∷ 0x02 ∷ 0x01 ∷ 0x03 ∷ 0x00 ∷ 0x01 ∷ 0x04 ∷ 0x01 ∷ 0x05 ∷ 0x04 ∷ 0x04 ∷ 0x00 ∷ 0x00 ∷ 0x04 ∷ 0x05 ∷ 0x00 ∷ 0x01 ∷ 0x04 ∷ 0x05 ∷ 0x01 ∷ 0x01 ∷ 0x02 ∷ 0x05 ∷ 0x01 ∷ 0x03 ∷ 0x04 ∷ 0x03 ∷ 0x01 ∷ 0x00 ∷ 0x04 ∷ 0x03 ∷ 0x02 ∷ 0x01 ∷ 0x04 ∷ 0x04 ∷ 0x02 ∷ 0x01 ∷ []
 
 -- a plain transaction, one object, no dependencies
 abbrev onePlain : List ℕ → List ℕ
@@ -160,6 +164,8 @@ refusedBooks =
     ∷ onePlain (0x01 ∷ 0x00 ∷ 0x04 ∷ 0x00 ∷ 0x00 ∷ 0x01 ∷ 0x06 ∷ 0x00 ∷ 0x00 ∷ 0x07 ∷ 0x00 ∷ 0x00 ∷ [])
     -- 21: 0 begins after 1, and 1 after 0
     ∷ waiting
+    -- 22: 4 stands before 5, who is done and stands before the undo 3, and now 4 would stand after 3
+    ∷ barsUndo
     ∷ []
 
 abbrev pub outcomeNumber : Outcome → ℕ
@@ -172,7 +178,7 @@ nothingDeclared = 1 ∷ 0 ∷ 0 ∷ 0 ∷ 0 ∷ []
 
 pub record NoLineDead : Type 0 where
   pub by-books : map (λ (s : List ℕ). verdictNumber (readingOf ceiling1 s .answer)) refusedBooks
-      ≡ 2 ∷ 3 ∷ 4 ∷ 5 ∷ 6 ∷ 7 ∷ 8 ∷ 9 ∷ 10 ∷ 11 ∷ 12 ∷ 13 ∷ 14 ∷ 15 ∷ 16 ∷ 17 ∷ 18 ∷ 20 ∷ 21 ∷ []
+      ≡ 2 ∷ 3 ∷ 4 ∷ 5 ∷ 6 ∷ 7 ∷ 8 ∷ 9 ∷ 10 ∷ 11 ∷ 12 ∷ 13 ∷ 14 ∷ 15 ∷ 16 ∷ 17 ∷ 18 ∷ 20 ∷ 21 ∷ 22 ∷ []
   pub by-writing : outcomeNumber (writeOutcome ceiling1 nothingDeclared []) ≡ 19
 
 -- ---- tables that can never move, and tables that can
@@ -189,3 +195,10 @@ pub record CircleCases : Type 0 where
   pub through-others : answerOf (readingOf ceiling1 (0x01 ∷ 0x00 ∷ 0x03 ∷ 0x00 ∷ 0x03 ∷ 0x00 ∷ 0x01 ∷ 0x05 ∷ 0x01 ∷ 0x02 ∷ 0x07 ∷ 0x02 ∷ 0x00 ∷ 0x06 ∷ [])) ≡ 21 ∷ 0 ∷ 4 ∷ []
   -- 0 begins after 1, and 1 doesn't commit when 0 is aborted, kind 3: accepted
   pub not-by-kind-3 : answerOf (readingOf ceiling1 (0x01 ∷ 0x00 ∷ 0x02 ∷ 0x00 ∷ 0x02 ∷ 0x00 ∷ 0x01 ∷ 0x04 ∷ 0x01 ∷ 0x00 ∷ 0x03 ∷ [])) ≡ 0 ∷ 0 ∷ 0 ∷ []
+
+-- ---- committed changes count for order
+
+pub record OrderCases : Type 0 where
+  -- 0 reads a; 1 writes a, writes b and commits; 0 reads b: 0 stands before 1 and after it, and cannot commit
+  pub through-committed : answerOf (readingOf ceiling1 (0x01 ∷ 0x00 ∷ 0x02 ∷ 0x02 ∷ 0x00 ∷ 0x01 ∷ 0x00 ∷ 0x01 ∷ 0x01 ∷ 0x04 ∷ 0x00 ∷ 0x00 ∷ 0x00 ∷ 0x04 ∷ 0x01 ∷ 0x00 ∷ 0x01 ∷ 0x04 ∷ 0x01 ∷ 0x01 ∷ 0x01 ∷ 0x02 ∷ 0x01 ∷ 0x04 ∷ 0x00 ∷ 0x01 ∷ 0x00 ∷ 0x02 ∷ 0x00 ∷ [])) ≡ 16 ∷ 7 ∷ 27 ∷ []
+  pub bars-undo : answerOf (readingOf ceiling1 barsUndo) ≡ 22 ∷ 13 ∷ 42 ∷ []

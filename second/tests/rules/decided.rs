@@ -20,7 +20,7 @@ fn a_number_has_at_most_three_groups_even_at_the_end() {
 }
 
 #[test]
-fn a_delegation_is_not_barred_by_sagas_dependencies_or_ties() {
+fn a_delegation_is_not_barred_by_sagas_dependencies_or_dirty_reads() {
     let book = Book::new(&[1], 2, 1, &[[2, 3, 2]])
         .begin(0)
         .begin(1)

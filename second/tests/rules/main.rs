@@ -8,5 +8,7 @@ mod never_moving;
 mod refusals;
 mod single;
 mod ties;
+mod undo_rings;
+mod walks;
 mod writing;
 mod wrong_turns;

@@ -13,11 +13,52 @@ fn only_conflicting_operations_on_one_object_are_tied() {
 }
 
 #[test]
-fn an_operation_that_ended_before_is_not_tied() {
-    let book = Book::begun(2, 1).operate(0, 0, WRITE).commit(0);
-    assert_eq!(pairs(&book.clone().operate(1, 0, WRITE)), []);
-    let aborted = Book::begun(2, 1).operate(0, 0, WRITE).abort(0);
-    assert_eq!(aborted.operate(1, 0, READ).commit(1).number(), 0);
+fn a_committed_operation_is_tied_to_later_ones_and_an_aborted_one_is_not() {
+    let written = Book::begun(2, 1).operate(0, 0, WRITE);
+    for mark in [READ, WRITE] {
+        let committed = written.clone().commit(0).operate(1, 0, mark);
+        assert_eq!(pairs(&committed), [(0, 1)]);
+        assert_eq!(committed.commit(1).number(), 0, "that bars nobody");
+        let aborted = written.clone().abort(0).operate(1, 0, mark);
+        assert_eq!(pairs(&aborted), []);
+        assert_eq!(aborted.commit(1).number(), 0);
+    }
+    let read = Book::begun(2, 1).operate(0, 0, READ).commit(0);
+    assert_eq!(pairs(&read.clone().operate(1, 0, READ)), []);
+    assert_eq!(pairs(&read.operate(1, 0, WRITE)), [(0, 1)]);
+}
+
+#[test]
+fn neither_could_have_come_first() {
+    // 0 reads a; 1 writes a, writes b and commits; 0 reads b and would commit.
+    let book = Book::begun(2, 2)
+        .operate(0, 0, READ)
+        .operate(1, 0, WRITE)
+        .operate(1, 1, WRITE)
+        .commit(1)
+        .operate(0, 1, READ);
+    assert_eq!(pairs(&book), [(0, 1), (1, 0)]);
+    book.clone().commit(0).refuses_last(16, 2);
+    book.clone().commit_operation(0, 3).refuses_last(16, 3);
+    assert_eq!(book.clone().abort_operation(0, 3).commit(0).number(), 0);
+    assert_eq!(book.abort(0).number(), 0);
+}
+
+#[test]
+fn a_ring_closed_by_ties_to_committed_operations_alone() {
+    // 0 before 1 before 2 before 0, each of them tied to one that had ended.
+    let book = Book::begun(3, 3)
+        .operate(0, 0, READ)
+        .commit_operation(0, 0)
+        .operate(1, 0, WRITE)
+        .operate(1, 1, WRITE)
+        .commit(1)
+        .operate(2, 1, READ)
+        .operate(2, 2, WRITE)
+        .commit(2)
+        .operate(0, 2, READ);
+    assert_eq!(pairs(&book), [(0, 1), (1, 2), (2, 0)]);
+    book.commit(0).refuses_last(16, 2);
 }
 
 #[test]

@@ -141,10 +141,23 @@ cast-to c =
     let small = active-small (a .transactions) (a .receiver) (whole (c .before .before .before .before .before .before .before .before .before .before .before .before .before .before .before .before .before)) (both .1) in
     omega arith
 
+gives-a-ring-requires : tie.Need-gives-a-ring-requires
+gives-a-ring-requires c κs = search needs
+
+refused-requires-5 : tie.Need-refused-requires-5
+refused-requires-5 c κs = search needs
+
 returns-5 : tie.Need-returns-5
 returns-5 c =
-    let a = c .before .before .before .before .before .before .before .before .before .before .before .before .before .before .before .before .before .args in
-    rw (known (c .before .before .before .before .before .before .before .before .before .before .before), parties (c .before .before .before .before .before .before .before .before), active (c .before .before .before), eq-eqb (opAt (a .t3) (a .q) .responsible) (a .t) (c .if4 .left))
+    let a = c .before .before .before .before .before .before .before .before .before .before .before .before .before .before .before .before .before .before .before .before .args in
+    let ring = sym (c .before .before .gives-a-ring .ensures) ∙ c .before .if5 .taken in
+    rw (known (c .before .before .before .before .before .before .before .before .before .before .before .before .before .before), parties (c .before .before .before .before .before .before .before .before .before .before .before), active (c .before .before .before .before .before .before), eq-eqb (opAt (a .t3) (a .q) .responsible) (a .t) (c .before .before .before .if4 .left), ring) (c .refused5 .ensures)
+
+returns-6 : tie.Need-returns-6
+returns-6 c =
+    let a = c .before .before .before .before .before .before .before .before .before .before .before .before .before .before .before .before .before .before .before .args in
+    let ring = sym (c .before .gives-a-ring .ensures) ∙ c .if5 .left in
+    rw (known (c .before .before .before .before .before .before .before .before .before .before .before .before .before), parties (c .before .before .before .before .before .before .before .before .before .before), active (c .before .before .before .before .before), eq-eqb (opAt (a .t3) (a .q) .responsible) (a .t) (c .before .before .if4 .left), ring)
 
 pub delegate-spec : {M : Type 1} → statement M
 delegate-spec =
@@ -173,4 +186,7 @@ delegate-spec =
     refused-requires-4
     returns-4
     cast-to
-    returns-5)
+    gives-a-ring-requires
+    refused-requires-5
+    returns-5
+    returns-6)

@@ -98,30 +98,44 @@ returns-4 c =
     let wait = told (waits (c .before .before .before .before .before .before .before .before .before .before .before .before)) (c .before .before .undo-waits .ensures) (c .before .before .before .before .before .before .before .before .before .before .sort-of .ensures) (c .before .if4 .taken) in
     rw (known (c .before .before .before .before .before .before .before .before), no-saga (c .before .before .before .before .before .before), active (c .before .before .before), wait) (c .refused4 .ensures)
 
+-- the numbers of the new operation
+cast-on : tie.Need-cast-on
+cast-on c =
+    let a = c .before .before .before .before .before .before .before .before .before .before .before .args in
+    let small = object-small (a .tables) (a .t) (a .object) (known (c .before .before .before .before .before .before .before)) in
+    omega arith
+
+cast-by : tie.Need-cast-by
+cast-by c =
+    let a = c .before .before .before .before .before .before .before .before .before .before .before .args in
+    let small = active-small (a .transactions) (a .t) (whole (c .before .before .before .before .before .before .before .before .before .before .before)) (active (c .before .before)) in
+    omega arith
+
+rings-an-undo-requires : tie.Need-rings-an-undo-requires
+rings-an-undo-requires c κs = search needs
+
 refused-requires-5 : tie.Need-refused-requires-5
 refused-requires-5 c κs = search needs
 
 returns-5 : tie.Need-returns-5
 returns-5 c =
-    let full = le-leb mostOperations (c .before .before .before .before .before .before .before .before .before .before .before .before .before .args .ops .count) (c .before .if5 .taken) in
-    rw (known (c .before .before .before .before .before .before .before .before .before), no-saga (c .before .before .before .before .before .before .before), active (c .before .before .before .before), no-wait (c .before .before), full) (c .refused5 .ensures)
+    let ring = sym (c .before .before .rings-an-undo .ensures) ∙ c .before .if5 .taken in
+    rw (known (c .before .before .before .before .before .before .before .before .before .before), no-saga (c .before .before .before .before .before .before .before .before), active (c .before .before .before .before .before), no-wait (c .before .before .before), ring) (c .refused5 .ensures)
 
-cast-t24 : tie.Need-cast-t24
-cast-t24 c =
-    let a = c .before .before .before .before .before .before .before .before .before .before .before .before .args in
-    let small = object-small (a .tables) (a .t) (a .object) (known (c .before .before .before .before .before .before .before .before)) in
-    omega arith
-
-cast-t25 : tie.Need-cast-t25
-cast-t25 c =
-    let a = c .before .before .before .before .before .before .before .before .before .before .before .before .args in
-    let small = active-small (a .transactions) (a .t) (whole (c .before .before .before .before .before .before .before .before .before .before .before .before)) (active (c .before .before .before)) in
-    omega arith
+refused-requires-6 : tie.Need-refused-requires-6
+refused-requires-6 c κs = search needs
 
 returns-6 : tie.Need-returns-6
 returns-6 c =
-    let room = lt-leb mostOperations (c .before .before .before .before .before .before .before .before .before .before .before .before .args .ops .count) (c .if5 .left) in
-    rw (known (c .before .before .before .before .before .before .before .before), no-saga (c .before .before .before .before .before .before), active (c .before .before .before), no-wait (c .before), room)
+    let ring = sym (c .before .before .before .rings-an-undo .ensures) ∙ c .before .before .if5 .left in
+    let full = le-leb mostOperations (c .before .before .before .before .before .before .before .before .before .before .before .before .before .before .before .args .ops .count) (c .before .if6 .taken) in
+    rw (known (c .before .before .before .before .before .before .before .before .before .before .before), no-saga (c .before .before .before .before .before .before .before .before .before), active (c .before .before .before .before .before .before), no-wait (c .before .before .before .before), ring, full) (c .refused6 .ensures)
+
+returns-7 : tie.Need-returns-7
+returns-7 c =
+    let ring = sym (c .before .before .rings-an-undo .ensures) ∙ c .before .if5 .left in
+    let room = lt-leb mostOperations (c .before .before .before .before .before .before .before .before .before .before .before .before .before .before .args .ops .count) (c .if6 .left) in
+    rw (known (c .before .before .before .before .before .before .before .before .before .before), no-saga (c .before .before .before .before .before .before .before .before), active (c .before .before .before .before .before), no-wait (c .before .before .before), ring, room)
 
 pub operation-spec : {M : Type 1} → statement M
 operation-spec =
@@ -142,8 +156,11 @@ operation-spec =
     undo-waits-requires
     refused-requires-4
     returns-4
+    cast-on
+    cast-by
+    rings-an-undo-requires
     refused-requires-5
     returns-5
-    cast-t24
-    cast-t25
-    returns-6)
+    refused-requires-6
+    returns-6
+    returns-7)

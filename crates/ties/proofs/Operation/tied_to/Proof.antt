@@ -12,13 +12,13 @@ cast-ended c = search needs
 conflicts-requires : tie.Need-conflicts-requires
 conflicts-requires c κs = search needs
 
-is-active-requires : tie.Need-is-active-requires
-is-active-requires c κs = search needs
+is-aborted-requires : tie.Need-is-aborted-requires
+is-aborted-requires c κs = search needs
 
 returns : tie.Need-returns
 unfolding tiedTo
-returns c = rw (c .before .conflicts .ensures, c .is-active .ensures)
+returns c = rw (c .before .conflicts .ensures, c .is-aborted .ensures)
 
 pub tied-to-spec : {M : Type 1} → statement M
 tied-to-spec =
-    tie.close (tie.spec cast-object cast-ended conflicts-requires is-active-requires returns)
+    tie.close (tie.spec cast-object cast-ended conflicts-requires is-aborted-requires returns)

@@ -62,10 +62,10 @@ mul-table : tie.Need-mul-table Inv-loop2 μ-loop2 Inv-loop μ-loop
 mul-table c = search needs
 
 index-1-table : tie.Need-index-1-table Inv-loop2 μ-loop2 Inv-loop μ-loop
-index-1-table c = counts-small _ _ _ (sym (c .before .before .counts-with .ensures) ∙ c .before .if1 .taken) .0
+index-1-table c = counts-small _ _ (sym (c .before .before .counts-with .ensures) ∙ c .before .if1 .taken) .0
 
 index-2-table : tie.Need-index-2-table Inv-loop2 μ-loop2 Inv-loop μ-loop
-index-2-table c = counts-small _ _ _ (sym (c .before .before .counts-with .ensures) ∙ c .before .if1 .taken) .1
+index-2-table c = counts-small _ _ (sym (c .before .before .counts-with .ensures) ∙ c .before .if1 .taken) .1
 
 add-i : tie.Need-add-i Inv-loop2 μ-loop2 Inv-loop μ-loop
 add-i c = search needs

@@ -1,0 +1,3 @@
+-- Laws of passes over the operations, and of searching by them.
+pub mod PassLaws
+pub mod SpreadLaws
