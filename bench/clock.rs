@@ -10,14 +10,20 @@ const LONG_ENOUGH: Duration = Duration::from_millis(300);
 pub fn measure(read: fn(&[u8]) -> u64) {
     let file = env::args().nth(1).expect("a book");
     let book = fs::read(file).expect("a book that can be read");
+    let first = Instant::now();
     let events = read(&book);
+    let at_once = if 16 * first.elapsed() < LONG_ENOUGH {
+        16
+    } else {
+        1
+    };
     let mut readings: u32 = 0;
     let start = Instant::now();
     while start.elapsed() < LONG_ENOUGH {
-        for _ in 0..16 {
+        for _ in 0..at_once {
             black_box(read(black_box(&book)));
         }
-        readings += 16;
+        readings += at_once;
     }
     println!(
         "{events} {}",

@@ -1,6 +1,6 @@
 -- Laws of whole books, and demands 1 and 2.
 pub mod ReadLaws
-pub mod ItemTags
+pub mod ReadingWalksHolds
 pub mod OpeningLaws
 pub mod LongestLaws
 pub mod RunLaws

@@ -18,17 +18,17 @@ use Rattle.tables.specs.Sorts.{firstOf, stepsOf}
 use Rattle.tables.specs.declared.Tables.{Tables}
 use Rattle.tables.proofs.SagaLaws.{owned-le, well-steps}
 use Rattle.judge.specs.Judge.{changeOf, judged, stateAfter}
-use Rattle.judge.specs.States.{entered, own, phaseOf}
+use Rattle.rules.specs.States.{entered, own, phaseOf}
 use Rattle.terms.specs.declared.Event.{Event}
 use Rattle.terms.specs.declared.Event.the-variants.{Abort, AbortOne, Begin, Commit, CommitOne, Delegate, Operation as Invoke}
-use Rattle.judge.specs.declared.Phase.{Phase}
-use Rattle.judge.specs.declared.Phase.the-variants.{Aborted, Active, Committed}
-use Rattle.judge.specs.declared.State.{State}
-use Rattle.judge.specs.declared.Transaction.{Transaction}
-use Rattle.judge.proofs.PhaseLaws.{code}
+use Rattle.rules.specs.declared.Phase.{Phase}
+use Rattle.rules.specs.declared.Phase.the-variants.{Aborted, Active, Committed}
+use Rattle.rules.specs.declared.State.{State}
+use Rattle.rules.specs.declared.Transaction.{Transaction}
+use Rattle.rules.proofs.PhaseLaws.{code}
 use Rattle.histories.proofs.Steps.{Ending, Entering, ending, entering, step}
 use Rattle.ties.specs.declared.Fate.the-variants.{Aborted as FateAborted, Committed as FateCommitted}
-use Rattle.judge.proofs.StateLaws.{entered-other, entered-same}
+use Rattle.rules.proofs.StateLaws.{entered-other, entered-same}
 use Rattle.closing.specs.Demand.{commitsOf, mine}
 use Rattle.closing.proofs.Moves.{Inv, Move, Moved, Next, abort-saga, abort-step, begin-saga, begin-step, begin-undo, commit-saga, commit-step, commit-undo, movedAt}
 use Rattle.closing.proofs.OutstandingLaws.{moveEvent}

@@ -1,6 +1,6 @@
 -- An active undo's commit is accepted, and S's once its last step is committed.
 use Prim.Native.Nat.{ℕ}
-use mathlib.Core.Path.{_≡_, refl, subst, sym}
+use mathlib.Core.Path.{_≡_, refl, subst}
 use mathlib.Core.Bool.{true, false}
 use mathlib.Core.List.{List}
 use Rattle.laws.proofs.Bools.{clash, on-and}
@@ -12,9 +12,9 @@ use Rattle.tables.specs.declared.Sort.{Sort}
 use Rattle.tables.specs.declared.Sort.the-variants.{Saga, Step, Undo, Plain, Unknown}
 use Rattle.tables.specs.declared.Tables.{Tables}
 use Rattle.tables.proofs.AcceptedWellHolds.{accepted-well}
-use Rattle.judge.specs.Rules.{commitBarred}
-use Rattle.judge.specs.States.{emptyState, isActive, phaseOf}
-use Rattle.judge.proofs.PhaseLaws.{active-is}
+use Rattle.rules.specs.Rules.{commitBarred}
+use Rattle.rules.specs.States.{emptyState, isActive, phaseOf}
+use Rattle.rules.proofs.PhaseLaws.{active-is}
 use Rattle.histories.specs.Histories.{reached}
 use Rattle.histories.proofs.Steps.{keeps-by}
 use Rattle.closing.specs.Committing.{AlwaysCommits, Commits}

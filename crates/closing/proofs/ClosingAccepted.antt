@@ -24,16 +24,16 @@ use Rattle.tables.specs.declared.Tables.{Tables}
 use Rattle.tables.proofs.DependencyLaws.{on-allowed}
 use Rattle.tables.proofs.SagaLaws.{owned-le, sort-step, sort-undo, well-steps}
 use Rattle.judge.specs.Judge.{changeOf, judged, stateAfter}
-use Rattle.judge.specs.Rules.{barredBy, commitBarred, commitBars, declaredBars, kindBars, undoBegins, undone}
-use Rattle.judge.specs.States.{entered, isAborted, isActive, isCommitted, own, phaseOf}
+use Rattle.rules.specs.Rules.{barredBy, commitBarred, commitBars, declaredBars, kindBars, undoBegins, undone}
+use Rattle.rules.specs.States.{entered, isAborted, isActive, isCommitted, own, phaseOf}
 use Rattle.terms.specs.declared.Event.the-variants.{Abort, Begin, Commit}
-use Rattle.judge.specs.declared.Phase.{Phase}
-use Rattle.judge.specs.declared.Phase.the-variants.{Aborted, Active, Committed}
-use Rattle.judge.specs.declared.State.{State}
-use Rattle.judge.specs.declared.Transaction.{Transaction}
-use Rattle.judge.proofs.PhaseLaws.{code, committed-is, not-active, not-committed, of-aborted, of-active, of-committed, of-idle}
+use Rattle.rules.specs.declared.Phase.{Phase}
+use Rattle.rules.specs.declared.Phase.the-variants.{Aborted, Active, Committed}
+use Rattle.rules.specs.declared.State.{State}
+use Rattle.rules.specs.declared.Transaction.{Transaction}
+use Rattle.rules.proofs.PhaseLaws.{code, committed-is, not-active, not-committed, of-aborted, of-active, of-committed, of-idle}
 use Rattle.histories.proofs.RunLaws.{off-lines}
-use Rattle.judge.proofs.StateLaws.{entered-other, entered-same}
+use Rattle.rules.proofs.StateLaws.{entered-other, entered-same}
 use Rattle.closing.proofs.Moves.{Move, Moved, abort-saga, abort-step, begin-saga, begin-step, begin-undo, commit-saga, commit-step, commit-undo, movedAt, movedTo}
 use Rattle.closing.proofs.OutstandingLaws.{Safe, moveEvent}
 use Rattle.closing.proofs.OwnEvents.{f0, sort-first}

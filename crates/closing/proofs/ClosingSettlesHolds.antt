@@ -20,12 +20,12 @@ use Rattle.tables.proofs.AcceptedWellHolds.{accepted-well}
 use Rattle.tables.proofs.SagaLaws.{owned-apart}
 use Rattle.histories.specs.Histories.{next, reached, run, taken}
 use Rattle.judge.specs.Judge.{judged}
-use Rattle.judge.specs.States.{emptyState, phaseOf}
+use Rattle.rules.specs.States.{emptyState, phaseOf}
 use Rattle.terms.specs.declared.Event.{Event}
-use Rattle.judge.specs.declared.Phase.{Phase}
-use Rattle.judge.specs.declared.Phase.the-variants.{Aborted, Active, Committed, Idle}
-use Rattle.judge.specs.declared.State.{State}
-use Rattle.judge.proofs.PhaseLaws.{code}
+use Rattle.rules.specs.declared.Phase.{Phase}
+use Rattle.rules.specs.declared.Phase.the-variants.{Aborted, Active, Committed, Idle}
+use Rattle.rules.specs.declared.State.{State}
+use Rattle.rules.proofs.PhaseLaws.{code}
 use Rattle.histories.proofs.RunLaws.{next-ok, run-append, taken-append}
 use Rattle.histories.proofs.Steps.{keeps-by}
 use Rattle.histories.proofs.Touches.{phased, rises}

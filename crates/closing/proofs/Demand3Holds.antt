@@ -23,13 +23,13 @@ use Rattle.tables.proofs.AcceptedWellHolds.{accepted-well}
 use Rattle.tables.proofs.SagaLaws.{well-steps}
 use Rattle.histories.specs.Histories.{history, reached, run}
 use Rattle.judge.specs.Judge.{changeOf, judged, stateAfter}
-use Rattle.judge.specs.Rules.{undone}
-use Rattle.judge.specs.States.{emptyState, isActive, isCommitted}
+use Rattle.rules.specs.Rules.{undone}
+use Rattle.rules.specs.States.{emptyState, isActive, isCommitted}
 use Rattle.terms.specs.declared.Event.{Event}
-use Rattle.judge.specs.declared.Phase.{Phase}
-use Rattle.judge.specs.declared.Phase.the-variants.{Aborted, Active, Committed, Idle}
-use Rattle.judge.specs.declared.State.{State}
-use Rattle.judge.proofs.PhaseLaws.{code-inj}
+use Rattle.rules.specs.declared.Phase.{Phase}
+use Rattle.rules.specs.declared.Phase.the-variants.{Aborted, Active, Committed, Idle}
+use Rattle.rules.specs.declared.State.{State}
+use Rattle.rules.proofs.PhaseLaws.{code-inj}
 use Rattle.histories.proofs.Steps.{step}
 use Rattle.histories.proofs.RunLaws.{by-verdict, keeps, next-ok, run-no, run-none, run-ok}
 use Rattle.closing.specs.Closing.{activeStep, backStep, closing, closingBy, eventOf, isListed, nextUndo, outstanding, outstandingBy, owed, ownOf, settled, toUndo}

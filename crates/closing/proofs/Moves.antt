@@ -4,8 +4,8 @@ use native.Mathlib.Omega.{arith}
 use mathlib.Core.Path.{_≡_, refl, sym, ap, subst, _∙_}
 use mathlib.Core.Logic.{_≢_}
 use Rattle.laws.proofs.Decisions.{same-or}
-use Rattle.judge.specs.declared.Phase.{Phase}
-use Rattle.judge.proofs.PhaseLaws.{code}
+use Rattle.rules.specs.declared.Phase.{Phase}
+use Rattle.rules.proofs.PhaseLaws.{code}
 
 abbrev pub At : (ℕ → Phase) → ℕ → ℕ → Type 0
 At P k c = code (P k) ≡ c

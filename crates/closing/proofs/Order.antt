@@ -9,15 +9,15 @@ use Rattle.tables.specs.declared.Tables.{Tables}
 use Rattle.tables.proofs.SagaLaws.{well-steps}
 use Rattle.histories.specs.Histories.{history, reached, run, taken}
 use Rattle.judge.specs.Judge.{changeOf, judged, stateAfter}
-use Rattle.judge.specs.States.{emptyState, own}
+use Rattle.rules.specs.States.{emptyState, own}
 use Rattle.terms.specs.declared.Event.{Event}
-use Rattle.judge.specs.declared.State.{State}
+use Rattle.rules.specs.declared.State.{State}
 use Rattle.histories.proofs.Invariants.{lasting-kept, lasting-start}
 use Rattle.histories.proofs.Lasts.{Lasting}
-use Rattle.judge.proofs.PhaseLaws.{code}
+use Rattle.rules.proofs.PhaseLaws.{code}
 use Rattle.histories.proofs.Steps.{step}
 use Rattle.histories.proofs.RunLaws.{by-verdict, keeps, run-no, run-ok, taken-no, taken-ok}
-use Rattle.judge.proofs.StateLaws.{all-idle}
+use Rattle.rules.proofs.StateLaws.{all-idle}
 use Rattle.closing.specs.Demand.{commitsOf}
 use Rattle.closing.proofs.Acts.{Acts, acts, inv-same, move-commits, moved, quiet, shape-same}
 use Rattle.closing.proofs.Moves.{Inv, keep, start}

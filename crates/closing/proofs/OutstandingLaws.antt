@@ -12,13 +12,13 @@ use Rattle.laws.proofs.Bools.{and-off, and-on, and-rest, bool-cases, clash, not
 use Rattle.laws.proofs.Decisions.{lt-or, same-or}
 use Rattle.laws.proofs.HighestLaws.{Highest, highest-none, highest-same, highest-some, none-highest, sum-le, sum-less, sum-same, sum-zero, zero-sum}
 use Rattle.sets.specs.Reach.{at}
-use Rattle.judge.specs.Rules.{undone}
-use Rattle.judge.specs.States.{isActive, isCommitted}
+use Rattle.rules.specs.Rules.{undone}
+use Rattle.rules.specs.States.{isActive, isCommitted}
 use Rattle.terms.specs.declared.Event.{Event}
 use Rattle.terms.specs.declared.Event.the-variants.{Abort, Begin, Commit}
-use Rattle.judge.specs.declared.Phase.{Phase}
-use Rattle.judge.specs.declared.Phase.the-variants.{Aborted, Active, Committed, Idle}
-use Rattle.judge.proofs.PhaseLaws.{active-is, active-not, code, code-inj, committed-is, committed-not, not-active, not-committed, of-aborted, of-active, of-committed}
+use Rattle.rules.specs.declared.Phase.{Phase}
+use Rattle.rules.specs.declared.Phase.the-variants.{Aborted, Active, Committed, Idle}
+use Rattle.rules.proofs.PhaseLaws.{active-is, active-not, code, code-inj, committed-is, committed-not, not-active, not-committed, of-aborted, of-active, of-committed}
 use Rattle.closing.specs.Closing.{activeStep, backStep, closingBy, eventOf, nextUndo, outstandingBy, owed, owedBy, settledBy, toUndo, undoStep}
 use Rattle.closing.specs.declared.NextStep.{NextStep}
 use Rattle.closing.specs.declared.NextStep.the-variants.{NoStep, ToAbort, ToCommit}

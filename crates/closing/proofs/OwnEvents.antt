@@ -12,14 +12,14 @@ use Rattle.tables.specs.Sorts.{firstOf, sortOf, stepsOf}
 use Rattle.tables.specs.declared.Sort.the-variants.{Saga as SagaItself}
 use Rattle.tables.specs.declared.Tables.{Tables}
 use Rattle.tables.proofs.SagaLaws.{sort-saga, sort-step, sort-undo}
-use Rattle.judge.specs.Rules.{stepBegins, undoBegins, undone}
-use Rattle.judge.specs.States.{isAborted, isActive, isCommitted, own}
+use Rattle.rules.specs.Rules.{stepBegins, undoBegins, undone}
+use Rattle.rules.specs.States.{isAborted, isActive, isCommitted, own}
 use Rattle.terms.specs.declared.Event.{Event}
 use Rattle.terms.specs.declared.Event.the-variants.{Abort, Begin, Commit}
-use Rattle.judge.specs.declared.Phase.{Phase}
-use Rattle.judge.specs.declared.Phase.the-variants.{Aborted, Committed}
-use Rattle.judge.specs.declared.State.{State}
-use Rattle.judge.proofs.PhaseLaws.{aborted-is, active-is, active-not, code-inj, committed-is, committed-not}
+use Rattle.rules.specs.declared.Phase.{Phase}
+use Rattle.rules.specs.declared.Phase.the-variants.{Aborted, Committed}
+use Rattle.rules.specs.declared.State.{State}
+use Rattle.rules.proofs.PhaseLaws.{aborted-is, active-is, active-not, code-inj, committed-is, committed-not}
 use Rattle.histories.proofs.Steps.{Ending, Entering}
 use Rattle.ties.specs.declared.Fate.the-variants.{Aborted as FateAborted, Committed as FateCommitted}
 use Rattle.closing.proofs.Moves.{Move, abort-saga, abort-step, begin-saga, begin-step, begin-undo, commit-saga, commit-step, commit-undo, movedAt, movedTo}

@@ -9,9 +9,9 @@ use Rattle.laws.proofs.Bools.{off-not, on-not}
 use Rattle.tables.specs.Sorts.{sagaOf}
 use Rattle.terms.specs.declared.Saga.{Saga}
 use Rattle.tables.specs.declared.Tables.{Tables}
-use Rattle.judge.specs.States.{own}
-use Rattle.judge.specs.declared.Phase.{Phase}
-use Rattle.judge.specs.declared.State.{State}
+use Rattle.rules.specs.States.{own}
+use Rattle.rules.specs.declared.Phase.{Phase}
+use Rattle.rules.specs.declared.State.{State}
 use Rattle.closing.specs.Closing.{activeStep, backStep, closing, closingBy, isListed, nextUndo, outstanding, outstandingBy, owed, settled, settledBy, toUndo, undoStep}
 use Rattle.closing.specs.declared.NextStep.the-variants.{NoStep, ToAbort}
 

@@ -6,8 +6,8 @@ use mathlib.Core.Logic.{_≢_, _⊎_, inl, inr}
 use mathlib.Core.List.{List, [], _∷_, _++_, append-assoc, append-nil}
 use Rattle.laws.proofs.Decisions.{lt-or, same-or}
 use Rattle.sets.specs.Reach.{at}
-use Rattle.judge.specs.declared.Phase.{Phase}
-use Rattle.judge.proofs.PhaseLaws.{code}
+use Rattle.rules.specs.declared.Phase.{Phase}
+use Rattle.rules.proofs.PhaseLaws.{code}
 use Rattle.closing.specs.Demand.{Beginning, backRun, downs, ups, wholeRun}
 use Rattle.closing.proofs.Moves.{At, Inv, Move, Moved, Next, abort-saga, abort-step, begin-saga, begin-step, begin-undo, commit-saga, commit-step, commit-undo, look, movedAt, movedTo, stays-at}
 

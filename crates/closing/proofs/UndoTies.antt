@@ -24,12 +24,12 @@ use Rattle.ties.proofs.TieLaws.{between, tie-made, tie-parts}
 use Rattle.tables.specs.Sorts.{isPlain, isSaga, isUndo, sortOf}
 use Rattle.tables.specs.declared.Tables.{Tables}
 use Rattle.judge.specs.Judge.{noParty, stateAfter}
-use Rattle.judge.specs.States.{emptyState, phaseOf}
+use Rattle.rules.specs.States.{emptyState, phaseOf}
 use Rattle.judge.specs.declared.Change.{Change}
-use Rattle.judge.specs.declared.State.{State}
-use Rattle.histories.proofs.Endings.{Together, together-kept, together-start}
+use Rattle.rules.specs.declared.State.{State}
+use Rattle.histories.proofs.Endings.{Together}
 use Rattle.histories.proofs.Lasts.{Lasting, size-count}
-use Rattle.judge.proofs.PhaseLaws.{code}
+use Rattle.rules.proofs.PhaseLaws.{code}
 use Rattle.histories.proofs.Steps.{Making, Step}
 use Rattle.histories.proofs.Touches.{New, Touched, by-whose, committed-stays, new, same-mark, same-object, same-stood, touched}
 use Rattle.histories.proofs.UndoRings.{Freed, freed-kept, freed-start}

@@ -7,13 +7,13 @@ use Rattle.laws.specs.Index.{one, highest, sumTo}
 use Rattle.tables.specs.Counts.{sagaCount}
 use Rattle.tables.specs.Sorts.{firstOf, stepsOf}
 use Rattle.tables.specs.declared.Tables.{Tables}
-use Rattle.judge.specs.declared.Phase.{Phase}
-use Rattle.judge.specs.declared.Phase.the-variants.{Idle, Active, Committed, Aborted}
+use Rattle.rules.specs.declared.Phase.{Phase}
+use Rattle.rules.specs.declared.Phase.the-variants.{Idle, Active, Committed, Aborted}
 use Rattle.terms.specs.declared.Event.{Event}
 use Rattle.terms.specs.declared.Event.the-variants.{Begin, Commit, Abort}
-use Rattle.judge.specs.declared.State.{State}
-use Rattle.judge.specs.States.{isActive, isCommitted, isAborted, own}
-use Rattle.judge.specs.Rules.{undone}
+use Rattle.rules.specs.declared.State.{State}
+use Rattle.rules.specs.States.{isActive, isCommitted, isAborted, own}
+use Rattle.rules.specs.Rules.{undone}
 use Rattle.closing.specs.declared.NextStep.{NextStep}
 use Rattle.closing.specs.declared.NextStep.the-variants.{NoStep, ToBegin, ToCommit, ToAbort}
 

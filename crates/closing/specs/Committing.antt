@@ -11,9 +11,10 @@ use Rattle.tables.specs.Sorts.{isSaga, sortOf}
 use Rattle.tables.specs.declared.Circles.{Circles}
 use Rattle.tables.specs.declared.Tables.{Tables}
 use Rattle.tables.specs.declared.TablesAnswer.the-variants.{Read}
-use Rattle.judge.specs.Judge.{activeUndo, judged}
-use Rattle.judge.specs.Rules.{commitBarred}
-use Rattle.judge.specs.States.{isActive, phaseOf}
+use Rattle.rules.specs.Rules.{activeUndo}
+use Rattle.judge.specs.Judge.{judged}
+use Rattle.rules.specs.Rules.{commitBarred}
+use Rattle.rules.specs.States.{isActive, phaseOf}
 use Rattle.histories.specs.Histories.{reached}
 
 pub record Commits (tables : Tables) (es : List Event) : Type 0 where

@@ -12,10 +12,10 @@ use Rattle.tables.specs.Reading.{tablesBy}
 use Rattle.tables.specs.declared.Circles.{Circles}
 use Rattle.tables.specs.declared.Tables.{Tables}
 use Rattle.tables.specs.declared.TablesAnswer.the-variants.{Read}
-use Rattle.judge.specs.declared.Phase.the-variants.{Idle}
+use Rattle.rules.specs.declared.Phase.the-variants.{Idle}
 use Rattle.terms.specs.declared.Event.{Event}
 use Rattle.terms.specs.declared.Event.the-variants.{Begin, Commit, Abort, Operation as Invoke, Delegate, CommitOne, AbortOne}
-use Rattle.judge.specs.declared.State.{State}
+use Rattle.rules.specs.declared.State.{State}
 use Rattle.judge.specs.Judge.{judged}
 use Rattle.histories.specs.Histories.{run, reached, history}
 use Rattle.closing.specs.declared.NextStep.the-variants.{NoStep}

@@ -11,9 +11,9 @@ use Rattle.tables.specs.Reading.{tablesBy}
 use Rattle.tables.specs.declared.Circles.{Circles}
 use Rattle.tables.specs.declared.Tables.{Tables}
 use Rattle.tables.specs.declared.TablesAnswer.the-variants.{Read}
-use Rattle.judge.specs.declared.Phase.the-variants.{Idle}
+use Rattle.rules.specs.declared.Phase.the-variants.{Idle}
 use Rattle.terms.specs.declared.Event.{Event}
-use Rattle.judge.specs.declared.State.{State}
+use Rattle.rules.specs.declared.State.{State}
 use Rattle.judge.specs.Judge.{judged}
 use Rattle.histories.specs.Histories.{run, taken, reached}
 use Rattle.closing.specs.Closing.{eventOf, ownOf, outstanding, closing, settled}

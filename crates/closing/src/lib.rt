@@ -1,7 +1,7 @@
 // What a saga still owes, and the next thing to do about it.
-use judge::Phase;
-use judge::State;
-use judge::Transaction;
+use rules::Phase;
+use rules::State;
+use rules::Transaction;
 use tables::Tables;
 use terms::Book;
 ghost use mathlib.Core.Path.{_≡_};
@@ -9,9 +9,9 @@ ghost use mathlib.Core.Bool.{not, _&&_};
 ghost use Prim.Native.Nat.{_-_};
 ghost use lib.Dec.{eqb};
 ghost use Rattle.laws.specs.Index.{highest, sumTo};
-ghost use Rattle.judge.specs.States.{isCommitted, own};
-ghost use Rattle.judge.specs.Rules.{undone};
-ghost use Rattle.closing.specs.Closing.{activeStep, owedBy, owed, toUndo, outstandingBy, nextUndo, undoStep, backStep, closingBy, settledBy, isListed, outstanding, closing, settled};
+ghost use Rattle.rules.specs.States.{isCommitted, own};
+ghost use Rattle.rules.specs.Rules.{undone};
+ghost use Rattle.closing.specs.Closing.{activeStep, owedBy, owed, toUndo, nextUndo, undoStep, backStep, isListed, outstanding, closing, settled};
 
 // The closing step of a saga, with its transaction.
 pub enum NextStep {
@@ -34,7 +34,7 @@ fn active_step(transactions: [Transaction; Book::TRANSACTIONS], first: u16, n: u
 {
     let mut i = n;
     while 0 < i {
-        let step = judge::own(transactions, first, i as u32);
+        let step = rules::own(transactions, first, i as u32);
         if step.is_active() {
             return i;
         }
@@ -59,10 +59,10 @@ fn owed_by(undo: Phase) -> usize
 fn owed(transactions: [Transaction; Book::TRANSACTIONS], first: u16, n: u16, i: u16) -> usize
     ensures { λ r. ⌜ r ≡ owed n (own transactions first) i ⌝ }
 {
-    let step = judge::own(transactions, first, i as u32);
+    let step = rules::own(transactions, first, i as u32);
     if step.is_committed() {
         let back = n as u32 + i as u32;
-        let undo = judge::own(transactions, first, back);
+        let undo = rules::own(transactions, first, back);
         return owed_by(undo);
     }
     0
@@ -103,9 +103,9 @@ fn next_undo(transactions: [Transaction; Book::TRANSACTIONS], first: u16, n: u16
     }
     let mut i = n - 1;
     while 0 < i {
-        let step = judge::own(transactions, first, i as u32);
+        let step = rules::own(transactions, first, i as u32);
         let back = n as u32 + i as u32;
-        let undo = judge::own(transactions, first, back);
+        let undo = rules::own(transactions, first, back);
         if step.is_committed() & !undo.is_committed() {
             return i;
         }
@@ -120,9 +120,9 @@ fn all_undone(transactions: [Transaction; Book::TRANSACTIONS], first: u16, n: u1
 {
     let mut i = n;
     while 0 < i {
-        let step = judge::own(transactions, first, i as u32);
+        let step = rules::own(transactions, first, i as u32);
         let back = n as u32 + i as u32;
-        let undo = judge::own(transactions, first, back);
+        let undo = rules::own(transactions, first, back);
         if step.is_committed() & !((i < n) & undo.is_committed()) {
             return false;
         }
@@ -142,11 +142,11 @@ pub fn outstanding(tables: Tables, state: State, saga: usize) -> usize
     let s = tables::saga_at(tables, saga);
     let first = s.first;
     let n = s.steps;
-    let phase = judge::own(transactions, first, 0);
+    let phase = rules::own(transactions, first, 0);
     match phase {
         Phase::Idle => 0,
         Phase::Active => {
-            let last = judge::own(transactions, first, n as u32);
+            let last = rules::own(transactions, first, n as u32);
             if last.is_committed() {
                 return 1;
             }
@@ -184,7 +184,7 @@ fn back_step(transactions: [Transaction; Book::TRANSACTIONS], first: u16, n: u16
         return NextStep::NoStep;
     }
     let back = n as u32 + next as u32;
-    let undo = judge::own(transactions, first, back);
+    let undo = rules::own(transactions, first, back);
     let t = first as usize + back as usize;
     undo_step(undo, t)
 }
@@ -200,11 +200,11 @@ pub fn closing(tables: Tables, state: State, saga: usize) -> NextStep
     let s = tables::saga_at(tables, saga);
     let first = s.first;
     let n = s.steps;
-    let phase = judge::own(transactions, first, 0);
+    let phase = rules::own(transactions, first, 0);
     match phase {
         Phase::Idle => NextStep::NoStep,
         Phase::Active => {
-            let last = judge::own(transactions, first, n as u32);
+            let last = rules::own(transactions, first, n as u32);
             let t = first as usize;
             if last.is_committed() {
                 return NextStep::ToCommit(t);
@@ -227,7 +227,7 @@ pub fn settled(tables: Tables, state: State, saga: usize) -> bool
     let s = tables::saga_at(tables, saga);
     let first = s.first;
     let n = s.steps;
-    let phase = judge::own(transactions, first, 0);
+    let phase = rules::own(transactions, first, 0);
     let active = active_step(transactions, first, n);
     let undone = all_undone(transactions, first, n);
     phase.is_committed() | (phase.is_aborted() & ((active == 0) & undone))

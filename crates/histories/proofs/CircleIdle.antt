@@ -19,15 +19,15 @@ use Rattle.tables.specs.declared.Tables.{Tables}
 use Rattle.tables.proofs.CircleLaws.{linked-entry, waits-parts}
 use Rattle.histories.specs.Histories.{reached}
 use Rattle.judge.specs.Judge.{stateAfter}
-use Rattle.judge.specs.Rules.{barredBy, beginBars, declaredBars}
-use Rattle.judge.specs.States.{emptyState, phaseOf}
+use Rattle.rules.specs.Rules.{barredBy, beginBars, declaredBars}
+use Rattle.rules.specs.States.{emptyState, phaseOf}
 use Rattle.terms.specs.declared.Event.{Event}
 use Rattle.judge.specs.declared.Change.{Change}
-use Rattle.judge.specs.declared.Phase.the-variants.{Idle}
-use Rattle.judge.specs.declared.State.{State}
-use Rattle.judge.specs.declared.Transaction.{Transaction}
-use Rattle.judge.proofs.PhaseLaws.{code}
-use Rattle.judge.proofs.StateLaws.{all-idle}
+use Rattle.rules.specs.declared.Phase.the-variants.{Idle}
+use Rattle.rules.specs.declared.State.{State}
+use Rattle.rules.specs.declared.Transaction.{Transaction}
+use Rattle.rules.proofs.PhaseLaws.{code}
+use Rattle.rules.proofs.StateLaws.{all-idle}
 use Rattle.histories.proofs.Steps.{Step, keeps-by}
 use Rattle.histories.proofs.Touches.{Phased, as-was, ended-now, entered-now, phased}
 

@@ -11,12 +11,12 @@ use Rattle.ties.specs.declared.Operation.{Operation}
 use Rattle.tables.specs.Sorts.{isPlain, sortOf}
 use Rattle.tables.specs.declared.Tables.{Tables}
 use Rattle.judge.specs.Judge.{stateAfter}
-use Rattle.judge.specs.States.{emptyState, phaseOf}
+use Rattle.rules.specs.States.{emptyState, phaseOf}
 use Rattle.judge.specs.declared.Change.{Change}
-use Rattle.judge.specs.declared.State.{State}
+use Rattle.rules.specs.declared.State.{State}
 use Rattle.histories.proofs.Invariants.{lasting-kept, lasting-start}
 use Rattle.histories.proofs.Lasts.{Lasting}
-use Rattle.judge.proofs.PhaseLaws.{code}
+use Rattle.rules.proofs.PhaseLaws.{code}
 use Rattle.histories.proofs.Steps.{Step}
 use Rattle.histories.proofs.Touches.{alone-may, endsAlone, every, phased, stays-over}
 

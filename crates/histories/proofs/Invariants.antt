@@ -12,15 +12,16 @@ use Rattle.ties.specs.Operations.{noOperation, isActive as isActiveOp, mostOper
 use Rattle.ties.specs.declared.Operation.{Operation}
 use Rattle.tables.specs.declared.Tables.{Tables}
 use Rattle.judge.specs.Judge.{stateAfter}
-use Rattle.judge.specs.States.{emptyState, idle, phaseOf}
+use Rattle.rules.specs.States.{emptyState, idle, phaseOf}
 use Rattle.judge.specs.declared.Change.{Change}
 use Rattle.terms.specs.declared.Event.{Event}
-use Rattle.judge.specs.declared.State.{State}
-use Rattle.judge.proofs.PhaseLaws.{code}
+use Rattle.rules.specs.declared.State.{State}
+use Rattle.rules.proofs.PhaseLaws.{code}
 use Rattle.histories.specs.Histories.{reached}
 use Rattle.histories.proofs.Lasts.{Lasting}
 use Rattle.histories.proofs.Steps.{Step, keeps-by}
-use Rattle.histories.proofs.Touches.{by-made, count-up, every, lengths, rest}
+use Rattle.judge.proofs.ChangeLaws.{lengths-after}
+use Rattle.histories.proofs.Touches.{by-made, count-up, every, rest}
 
 module _ (tables : Tables) (s : State) (c : Change) (h : Lasting s) (w : Step tables s c) where
   abbrev later : State
@@ -50,8 +51,8 @@ module _ (tables : Tables) (s : State) (c : Change) (h : Lasting s) (w : Step ta
   pub lasting-after : Lasting later
   lasting-after =
       record {
-        full = lengths tables s c w .0 ∙ h .full;
-        room = lengths tables s c w .1 ∙ h .room;
+        full = lengths-after c s .0 ∙ h .full;
+        room = lengths-after c s .1 ∙ h .room;
         few =
             by-made tables s (λ (x : Change). stateAfter x s .ops .count ≤ mostOperations) c w
             (λ x e. omega (arith, e, h .few))

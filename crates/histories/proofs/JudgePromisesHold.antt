@@ -12,16 +12,16 @@ use Rattle.tables.specs.declared.Tables.{Tables}
 use Rattle.histories.specs.Histories.{reached}
 use Rattle.judge.specs.Judge.{stateAfter}
 use Rattle.histories.specs.Promises.{AnyRun, EndsWith, JudgePromises}
-use Rattle.judge.specs.States.{isActive, phaseOf}
+use Rattle.rules.specs.States.{isActive, phaseOf}
 use Rattle.judge.specs.declared.Change.the-variants.{Ends}
 use Rattle.terms.specs.declared.Event.{Event}
 use Rattle.terms.specs.declared.Event.the-variants.{Abort, Commit}
-use Rattle.judge.specs.declared.Phase.{Phase}
-use Rattle.judge.specs.declared.Phase.the-variants.{Aborted, Committed}
-use Rattle.judge.specs.declared.State.{State}
+use Rattle.rules.specs.declared.Phase.{Phase}
+use Rattle.rules.specs.declared.Phase.the-variants.{Aborted, Committed}
+use Rattle.rules.specs.declared.State.{State}
 use Rattle.histories.proofs.CircleIdle.{never-begins}
 use Rattle.histories.proofs.Invariants.{lasting}
-use Rattle.judge.proofs.PhaseLaws.{code, of-active}
+use Rattle.rules.proofs.PhaseLaws.{code, of-active}
 use Rattle.histories.proofs.Responsible.{responsible-told}
 use Rattle.histories.proofs.RunLaws.{next-ok, one-event}
 use Rattle.histories.proofs.Singles.{ended-alone}

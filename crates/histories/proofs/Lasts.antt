@@ -6,9 +6,9 @@ use mathlib.Core.Bool.{true, false}
 use lib.ListN.{length}
 use Rattle.terms.specs.Limits.{mostTransactions}
 use Rattle.ties.specs.Operations.{isActive as isActiveOp, mostOperations, opAt, size}
-use Rattle.judge.specs.States.{phaseOf}
-use Rattle.judge.specs.declared.State.{State}
-use Rattle.judge.proofs.PhaseLaws.{code}
+use Rattle.rules.specs.States.{phaseOf}
+use Rattle.rules.specs.declared.State.{State}
+use Rattle.rules.proofs.PhaseLaws.{code}
 
 pub record Lasting (s : State) : Type 0 where
   pub full : length (s .transactions) ≡ mostTransactions

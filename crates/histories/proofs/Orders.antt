@@ -1,13 +1,12 @@
 -- What the order of transactions means after any run of events: the numbers of operations are within the limits, so nothing but an abort takes
 -- an operation out of it.
-use Prim.Native.Nat.{ℕ, _<_, _≤_}
+use Prim.Native.Nat.{ℕ, _<_}
 use native.Mathlib.Omega.{arith}
-use mathlib.Core.Path.{_≡_, refl, sym, ap, _∙_}
-use mathlib.Core.Bool.{true, false, not, _&&_, _||_}
+use mathlib.Core.Path.{_≡_, sym, ap, _∙_}
+use mathlib.Core.Bool.{true, false, not, _||_}
 use mathlib.Core.Logic.{_↔_}
 use mathlib.Core.List.{List}
 use lib.Dec.{leb, ltb}
-use lib.ListN.{length}
 use borrow.Author.Tests.{lt-leb}
 use Rattle.laws.proofs.Bools.{and-on, clash, not-on, off-or, on-and, or-left, or-off}
 use Rattle.laws.proofs.Decisions.{lt-or}
@@ -18,11 +17,11 @@ use Rattle.ties.specs.declared.Operation.{Operation}
 use Rattle.ties.proofs.TieLaws.{between, tie-made, tie-parts, ties-on}
 use Rattle.tables.specs.declared.Tables.{Tables}
 use Rattle.judge.specs.Judge.{stateAfter}
-use Rattle.judge.specs.States.{emptyState, phaseOf}
+use Rattle.rules.specs.States.{emptyState, phaseOf}
 use Rattle.judge.specs.declared.Change.{Change}
-use Rattle.judge.specs.declared.State.{State}
-use Rattle.judge.proofs.PhaseLaws.{code}
-use Rattle.judge.proofs.StateLaws.{past-idle}
+use Rattle.rules.specs.declared.State.{State}
+use Rattle.rules.proofs.PhaseLaws.{code}
+use Rattle.rules.proofs.StateLaws.{past-idle}
 use Rattle.terms.specs.declared.Event.{Event}
 use Rattle.histories.specs.Histories.{reached}
 use Rattle.histories.specs.Promises.{Stands}

@@ -16,12 +16,12 @@ use Rattle.ties.proofs.OpsLaws.{made-at, made-room, rewritten-at}
 use Rattle.tables.specs.declared.Tables.{Tables}
 use Rattle.histories.specs.Histories.{Account, accountOf, endedAlone, endedWith, history, invokedBy, noAccount, reached, receivedBy, recounted, responsibleIn, run, taken}
 use Rattle.judge.specs.Judge.{changeOf, stateAfter}
-use Rattle.judge.specs.States.{emptyState}
+use Rattle.rules.specs.States.{emptyState}
 use Rattle.judge.specs.declared.Change.{Change}
 use Rattle.judge.specs.declared.Change.the-variants.{Ends, EndsOne, Enters, Gives, Makes, Nothing}
 use Rattle.terms.specs.declared.Event.{Event}
 use Rattle.terms.specs.declared.Event.the-variants.{Abort, AbortOne, Begin, Commit, CommitOne, Delegate, Operation as Invoke}
-use Rattle.judge.specs.declared.State.{State}
+use Rattle.rules.specs.declared.State.{State}
 use Rattle.histories.proofs.Invariants.{lasting-kept, lasting-start}
 use Rattle.histories.proofs.Lasts.{Lasting, size-count}
 use Rattle.histories.proofs.RunLaws.{by-verdict, run-no, run-ok, taken-no, taken-ok}

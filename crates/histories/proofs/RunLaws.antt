@@ -11,7 +11,7 @@ use Rattle.histories.specs.Histories.{next, run, taken}
 use Rattle.judge.specs.Judge.{changeBy, changeOf, judged, lines, rulingOf, stateAfter}
 use Rattle.histories.specs.Promises.{OneEvent}
 use Rattle.terms.specs.declared.Event.{Event}
-use Rattle.judge.specs.declared.State.{State}
+use Rattle.rules.specs.declared.State.{State}
 use Rattle.judge.proofs.RuleLaws.{not-accepted}
 
 same-refusal : (r q : Refusal) → Refused r ≡ Refused q → r ≡ q

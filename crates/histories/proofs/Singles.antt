@@ -22,10 +22,10 @@ use Rattle.tables.specs.declared.Tables.{Tables}
 use Rattle.judge.specs.Judge.{judged, stateAfter, unknown}
 use Rattle.terms.specs.Events.{isWrite}
 use Rattle.histories.specs.Promises.{EndedAlone, MayCommitOne, MayEndOne, OnlyEnds}
-use Rattle.judge.specs.States.{isActive, phaseOf}
+use Rattle.rules.specs.States.{isActive, phaseOf}
 use Rattle.judge.specs.declared.Change.the-variants.{EndsOne}
 use Rattle.terms.specs.declared.Event.the-variants.{AbortOne, CommitOne}
-use Rattle.judge.specs.declared.State.{State}
+use Rattle.rules.specs.declared.State.{State}
 use Rattle.histories.proofs.RunLaws.{lines-off, next-ok, off-lines}
 use Rattle.histories.proofs.Steps.{commit-one-may, single-may}
 

@@ -18,18 +18,19 @@ use Rattle.terms.specs.declared.Mark.{Mark}
 use Rattle.tables.specs.Sorts.{isPlain, isSaga, isUndo, sortOf}
 use Rattle.tables.specs.declared.Tables.{Tables}
 use Rattle.histories.specs.Histories.{next, run}
-use Rattle.judge.specs.Judge.{activeUndo, changeOf, commitOneLines, inactive, judged, lines, noParty, singleLines, stateAfter}
+use Rattle.rules.specs.Rules.{activeUndo, inactive}
+use Rattle.judge.specs.Judge.{changeOf, commitOneLines, judged, lines, noParty, singleLines, stateAfter}
 use Rattle.histories.specs.Promises.{MayEndOne}
-use Rattle.judge.specs.Rules.{abortBarred, beginBarred, commitBarred, declaredBars}
-use Rattle.judge.specs.States.{isActive, isIdle, phaseOf}
+use Rattle.rules.specs.Rules.{abortBarred, beginBarred, commitBarred, declaredBars}
+use Rattle.rules.specs.States.{isActive, isIdle, phaseOf}
 use Rattle.judge.specs.declared.Change.{Change}
 use Rattle.judge.specs.declared.Change.the-variants.{Ends, EndsOne, Enters, Gives, Makes}
 use Rattle.terms.specs.declared.Event.{Event}
 use Rattle.terms.specs.declared.Event.the-variants.{Abort, AbortOne, Begin, Commit, CommitOne, Delegate, Operation as Invoke}
-use Rattle.judge.specs.declared.Phase.{Phase}
-use Rattle.judge.specs.declared.Phase.the-variants.{Aborted, Active, Committed, Idle}
-use Rattle.judge.specs.declared.State.{State}
-use Rattle.judge.proofs.PhaseLaws.{active-is, code, idle-is}
+use Rattle.rules.specs.declared.Phase.{Phase}
+use Rattle.rules.specs.declared.Phase.the-variants.{Aborted, Active, Committed, Idle}
+use Rattle.rules.specs.declared.State.{State}
+use Rattle.rules.proofs.PhaseLaws.{active-is, code, idle-is}
 use Rattle.judge.proofs.RuleLaws.{object-small, operation-known, single-known}
 use Rattle.histories.proofs.RunLaws.{by-verdict, keeps, lines-off, next-no, next-ok}
 

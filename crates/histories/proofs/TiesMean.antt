@@ -15,10 +15,10 @@ use Rattle.ties.specs.declared.Operation.{Operation}
 use Rattle.tables.specs.declared.Tables.{Tables}
 use Rattle.histories.specs.Histories.{reached, run, whenMade}
 use Rattle.judge.specs.Judge.{stateAfter}
-use Rattle.judge.specs.States.{emptyState}
+use Rattle.rules.specs.States.{emptyState}
 use Rattle.judge.specs.declared.Change.{Change}
 use Rattle.terms.specs.declared.Event.{Event}
-use Rattle.judge.specs.declared.State.{State}
+use Rattle.rules.specs.declared.State.{State}
 use Rattle.histories.proofs.Invariants.{lasting, lasting-kept, lasting-start}
 use Rattle.histories.proofs.Lasts.{Lasting, size-count}
 use Rattle.histories.proofs.Steps.{Step, by-next, keeps-by}

@@ -17,20 +17,20 @@ use Rattle.terms.specs.declared.Mark.{Mark}
 use Rattle.ties.specs.declared.Operation.{Operation}
 use Rattle.ties.specs.declared.Ops.{Ops}
 use Rattle.ties.proofs.OrderLaws.{active-stands, active-uncommitted}
-use Rattle.ties.proofs.OpsLaws.{count-rewritten, length-made, length-rewritten, made-at, made-room, rewritten-at}
+use Rattle.ties.proofs.OpsLaws.{count-rewritten, made-at, made-room, rewritten-at}
 use Rattle.tables.specs.Sorts.{sortOf}
 use Rattle.tables.specs.declared.Tables.{Tables}
 use Rattle.judge.specs.Judge.{noParty, stateAfter}
 use Rattle.histories.specs.Promises.{MayEndOne}
-use Rattle.judge.specs.States.{entered, phaseOf}
+use Rattle.rules.specs.States.{entered, phaseOf}
 use Rattle.judge.specs.declared.Change.{Change}
 use Rattle.judge.specs.declared.Change.the-variants.{Ends, EndsOne, Enters, Gives, Makes, Nothing}
-use Rattle.judge.specs.declared.Phase.{Phase}
-use Rattle.judge.specs.declared.Phase.the-variants.{Active}
-use Rattle.judge.specs.declared.State.{State}
+use Rattle.rules.specs.declared.Phase.{Phase}
+use Rattle.rules.specs.declared.Phase.the-variants.{Active}
+use Rattle.rules.specs.declared.State.{State}
 use Rattle.histories.proofs.Lasts.{Lasting, size-count}
-use Rattle.judge.proofs.PhaseLaws.{code}
-use Rattle.judge.proofs.StateLaws.{entered-other, entered-same, length-entered, past-idle}
+use Rattle.rules.proofs.PhaseLaws.{code}
+use Rattle.rules.proofs.StateLaws.{entered-other, entered-same, length-entered, past-idle}
 use Rattle.histories.proofs.Steps.{Ending, EndingOne, Entering, Giving, Making, Step, ends, ends-one, enters, gives, makes}
 
 -- the change ends operation q alone
@@ -299,16 +299,6 @@ rest tables s c (makes t o m f) h p l =
     made-at (newOp t o m) (s .ops) (h .room) (f .room) p
     ∙ rw (ne-eqb p (s .ops .count) (λ e. omega (arith, ap (λ (x : Ops). x .count) (made-room (newOp t o m) (s .ops) (f .room)))))
 rest tables s c (gives t r q f) h p l = past-rewritten s h (onlyActive q) (passedTo r) (λ k. refl) p l
-
--- and nothing grows longer
-pub lengths : (tables : Tables) (s : State) (c : Change) → Step tables s c
-    → (length (stateAfter c s .transactions) ≡ length (s .transactions)) × (length (stateAfter c s .ops .all) ≡ length (s .ops .all))
-unfolding stateAfter
-lengths tables s c (enters t f) = (length-entered (s .transactions) t Active, refl)
-lengths tables s c (ends t p fate f) = (length-entered (s .transactions) t p, length-rewritten (allHeldBy t) (endedAs fate (size (s .ops))) (λ k. refl) (s .ops))
-lengths tables s c (ends-one t q fate f) = (refl, length-rewritten (onlyActive q) (endedAs fate (size (s .ops))) (λ k. refl) (s .ops))
-lengths tables s c (makes t o m f) = (refl, length-made (newOp t o m) (s .ops))
-lengths tables s c (gives t r q f) = (refl, length-rewritten (onlyActive q) (passedTo r) (λ k. refl) (s .ops))
 
 -- any operation after the event: kept, ended, given, new, or none
 module _ (tables : Tables) (s : State) (c : Change) (w : Step tables s c) (h : Lasting s) (G : Operation → Type 0) (p : ℕ)

@@ -1,13 +1,12 @@
 -- No active undo is on a ring, whatever the events: an operation and a delegation add pairs at one transaction only, and are refused where that
 -- would close a ring through an active undo; ends add no pair; and whoever begins is responsible for nothing.
-use Prim.Native.Nat.{ℕ, _+_, _<_, _≤_}
+use Prim.Native.Nat.{ℕ, _+_, _<_}
 use native.Mathlib.Omega.{arith}
-use mathlib.Core.Path.{_≡_, refl, sym, ap, _∙_, subst, subst⁻¹}
+use mathlib.Core.Path.{_≡_, refl, ap, _∙_, subst, subst⁻¹}
 use mathlib.Core.Bool.{Bool, true, false, _&&_}
-use mathlib.Core.Logic.{_↔_, _⊎_, inl, inr, ⊎-elim}
+use mathlib.Core.Logic.{_↔_, _⊎_, ⊎-elim}
 use mathlib.Core.List.{List}
 use lib.Dec.{eqb}
-use Rattle.laws.specs.Index.{anyBelow}
 use Rattle.laws.proofs.Bools.{and-on, and-rest, bool-cases, clash, is-not, on-and}
 use Rattle.laws.proofs.IndexLaws.{any-elim, any-intro}
 use Rattle.terms.specs.Limits.{mostTransactions}
@@ -27,12 +26,12 @@ use Rattle.tables.specs.Sorts.{isPlain, isUndo, sortOf}
 use Rattle.tables.specs.declared.Sort.{Sort}
 use Rattle.tables.specs.declared.Sort.the-variants.{Saga, Step as StepSort, Undo, Plain, Unknown}
 use Rattle.tables.specs.declared.Tables.{Tables}
-use Rattle.judge.specs.Judge.{activeUndo, stateAfter}
-use Rattle.judge.specs.States.{emptyState, isActive, phaseOf}
+use Rattle.rules.specs.Rules.{activeUndo}
+use Rattle.judge.specs.Judge.{stateAfter}
+use Rattle.rules.specs.States.{emptyState, isActive, phaseOf}
 use Rattle.judge.specs.declared.Change.{Change}
-use Rattle.judge.specs.declared.Phase.{Phase}
-use Rattle.judge.specs.declared.State.{State}
-use Rattle.judge.proofs.PhaseLaws.{active-is, code}
+use Rattle.rules.specs.declared.State.{State}
+use Rattle.rules.proofs.PhaseLaws.{active-is, code}
 use Rattle.histories.specs.Histories.{reached}
 use Rattle.histories.specs.Promises.{UndoRinged}
 use Rattle.histories.proofs.Endings.{Together, together-kept, together-start}

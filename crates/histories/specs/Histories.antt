@@ -7,10 +7,10 @@ use Rattle.terms.specs.declared.Verdict.{Verdict}
 use Rattle.terms.specs.declared.Verdict.the-variants.{Accepted, Refused}
 use Rattle.ties.specs.Operations.{size}
 use Rattle.tables.specs.declared.Tables.{Tables}
-use Rattle.judge.specs.declared.State.{State}
+use Rattle.rules.specs.declared.State.{State}
 use Rattle.terms.specs.declared.Event.{Event}
 use Rattle.terms.specs.declared.Event.the-variants.{Begin, Commit, Abort, Operation as Invoke, Delegate, CommitOne, AbortOne}
-use Rattle.judge.specs.States.{emptyState}
+use Rattle.rules.specs.States.{emptyState}
 use Rattle.judge.specs.Judge.{judged}
 
 abbrev pub isAccepted : Verdict → Bool

@@ -19,12 +19,13 @@ use Rattle.sets.specs.Reach.{Leads}
 use Rattle.tables.specs.Circles.{beginLink}
 use Rattle.tables.specs.Sorts.{isPlain, sortOf}
 use Rattle.tables.specs.declared.Tables.{Tables}
-use Rattle.judge.specs.declared.Phase.the-variants.{Idle}
-use Rattle.judge.specs.declared.State.{State}
+use Rattle.rules.specs.declared.Phase.the-variants.{Idle}
+use Rattle.rules.specs.declared.State.{State}
 use Rattle.terms.specs.declared.Event.{Event}
 use Rattle.terms.specs.declared.Event.the-variants.{Commit, Abort, CommitOne, AbortOne}
-use Rattle.judge.specs.States.{isActive, phaseOf, emptyState}
-use Rattle.judge.specs.Judge.{activeUndo, lines, judged}
+use Rattle.rules.specs.States.{isActive, phaseOf, emptyState}
+use Rattle.rules.specs.Rules.{activeUndo}
+use Rattle.judge.specs.Judge.{lines, judged}
 use Rattle.terms.specs.Events.{isWrite}
 use Rattle.histories.specs.Histories.{reached, history, responsibleIn, whenMade}
 

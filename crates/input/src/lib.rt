@@ -1,5 +1,5 @@
 // Reading an input so that a read that failed is never taken for its end.
-ghost use Prim.Native.Nat.{_+_, _≤_, _<_};
+ghost use Prim.Native.Nat.{_+_, _<_};
 ghost use lib.ListN.{length};
 ghost use Rattle.input.specs.Filling.{Within, Fits};
 use libc::EINTR;

@@ -1,4 +1,4 @@
 -- Laws of judging.
-pub mod PhaseLaws
-pub mod StateLaws
 pub mod RuleLaws
+pub mod LentLaws
+pub mod ChangeLaws

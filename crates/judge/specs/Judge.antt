@@ -5,8 +5,6 @@ use mathlib.Core.Bool.{Bool, true, false, not, _&&_, _||_}
 use mathlib.Core.List.{List, [], _∷_, _++_}
 use lib.Dec.{ltb, leb, eqb}
 use Rattle.laws.specs.Lines.{Line, line, firstLine}
-use Rattle.terms.specs.Limits.{mostTransactions}
-use Rattle.sets.specs.Sets.{setOf}
 use Rattle.terms.specs.declared.Refusal.{Refusal}
 use Rattle.terms.specs.declared.Refusal.the-variants.{NotInTables, NeverDoes, NotIdle, NotActive, NotResponsible, SagaRule, DependencyRule, DirtyRead, OnRing, MustWait, Full, AlreadyEnded, UndoOnRing}
 use Rattle.terms.specs.declared.Verdict.{Verdict}
@@ -20,17 +18,16 @@ use Rattle.tables.specs.Counts.{objectCount}
 use Rattle.tables.specs.Sorts.{sortOf, isKnown, isSaga, isUndo, isPlain}
 use Rattle.tables.specs.declared.Sort.{Sort}
 use Rattle.tables.specs.declared.Tables.{Tables}
-use Rattle.judge.specs.declared.Phase.the-variants.{Active, Committed, Aborted}
-use Rattle.judge.specs.declared.Transaction.{Transaction}
-use Rattle.judge.specs.declared.State.{State}
+use Rattle.rules.specs.declared.Phase.the-variants.{Active, Committed, Aborted}
+use Rattle.rules.specs.declared.Transaction.{Transaction}
+use Rattle.rules.specs.declared.State.{State}
 use Rattle.terms.specs.declared.Event.{Event}
 use Rattle.terms.specs.declared.Event.the-variants.{Begin, Commit, Abort, Operation as Invoke, Delegate, CommitOne, AbortOne}
 use Rattle.judge.specs.declared.Change.{Change}
 use Rattle.judge.specs.declared.Change.the-variants.{Nothing, Enters, Ends, EndsOne, Makes, Gives}
 use Rattle.judge.specs.declared.Ruling.{Ruling}
-use Rattle.judge.specs.declared.Judged.{Judged}
-use Rattle.judge.specs.States.{isIdle, isActive, phaseOf, entered}
-use Rattle.judge.specs.Rules.{beginBarred, commitBarred, abortBarred, declaredBars}
+use Rattle.rules.specs.States.{isIdle, phaseOf, entered}
+use Rattle.rules.specs.Rules.{beginBarred, commitBarred, abortBarred, declaredBars, inactive, activeUndo}
 
 -- ---- the tests of the lines
 
@@ -41,18 +38,9 @@ unknown tables t = not (isKnown (sortOf tables t))
 abbrev pub unknownObject : Tables → ℕ → Bool
 unknownObject tables o = not (ltb o (objectCount tables))
 
-abbrev pub inactive : List Transaction → ℕ → Bool
-inactive ts t = not (isActive (phaseOf ts t))
-
 -- "neither S nor an undo gives or receives a delegation"
 abbrev pub noParty : Sort → Bool
 noParty x = isSaga x || isUndo x
-
-abbrev pub activeUndo : Tables → List Transaction → ℕ → Bool
-activeUndo tables ts u = isUndo (sortOf tables u) && isActive (phaseOf ts u)
-
-unfoldable pub activeUndos : Tables → List Transaction → ℕ
-activeUndos tables ts = setOf mostTransactions (activeUndo tables ts)
 
 -- ---- the lines of each event
 
@@ -150,6 +138,9 @@ changeBy (Refused r) c = Nothing
 abbrev pub refusedBy : Refusal → Ruling
 refusedBy r = record { verdict = Refused r; change = Nothing }
 
+abbrev pub acceptedBy : Change → Ruling
+acceptedBy c = record { verdict = Accepted; change = c }
+
 abbrev pub ruledBy : List (Line Refusal) → Change → Ruling
 ruledBy ls c = record { verdict = verdictBy ls; change = changeBy (verdictBy ls) c }
 
@@ -177,6 +168,10 @@ opsAfter (Gives q r) ops = given q r ops
 unfoldable pub stateAfter : Change → State → State
 stateAfter c s = record { transactions = transactionsAfter c (s .transactions); ops = opsAfter c (s .ops) }
 
--- verdict and state in one value
+-- the verdict on an event, and the state after it
+pub record Judged : Type 0 where
+  pub verdict : Verdict
+  pub state : State
+
 unfoldable pub judged : Tables → State → Event → Judged
 judged tables s e = record { verdict = rulingOf tables s e .verdict; state = stateAfter (rulingOf tables s e .change) s }

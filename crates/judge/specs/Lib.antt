@@ -1,4 +1,3 @@
--- The definitions that the contracts of `judge` cite, and what is promised of them.
-pub mod States
-pub mod Rules
+-- The definitions that the contracts of `judge` cite.
 pub mod Judge
+pub mod Lent

@@ -1,7 +1,8 @@
-// Judging one event of a book: accepted, or refused by the first line that holds; and the state after it.
-use tables::Kind;
-use tables::Sort;
-use tables::Tables;
+// Judging one event of a book: accepted, or refused by the first line that holds. How everything stands is kept in numbers that the caller lends, and an
+// accepted event changes them where they stand.
+use rules::Phase;
+use rules::State;
+use sheet::Sheet;
 use terms::Book;
 use terms::Event;
 use terms::Mark;
@@ -9,34 +10,23 @@ use terms::Refusal;
 use terms::Verdict;
 use ties::Fate;
 use ties::Operation;
-use ties::Ops;
 ghost use mathlib.Core.Path.{_≡_};
-ghost use mathlib.Core.Bool.{_&&_};
-ghost use Rattle.ties.specs.Operations.{isActive as isActiveOperation};
-ghost use Rattle.ties.specs.Ties.{beforeMade, beforeGiven, ringWith, mustWait};
-ghost use Rattle.tables.specs.Sorts.{isUndo};
-ghost use Rattle.judge.specs.States.{isIdle, isActive, isCommitted, isAborted, emptyState, phaseOf, own, inPhase, entered};
-ghost use Rattle.judge.specs.Rules.{stepBegins, undoBegins, beginBarred, commitBarred, abortBarred, commitBars, beginBars, kindBars, declaredBars};
-ghost use Rattle.judge.specs.Judge.{beginLines, commitLines, abortLines, operationLines, delegateLines, singleLines, commitOneLines, verdictBy, noParty, activeUndo, activeUndos, changeOf, ruledBy, refusedBy, rulingOf, stateAfter, judged};
+ghost use mathlib.Core.Bool.{not, _&&_};
+ghost use Prim.Native.Nat.{ℕ, _<_, min};
+ghost use lib.Dec.{ltb, eqb};
+ghost use Rattle.terms.specs.Limits.{mostObjects};
 ghost use Rattle.terms.specs.declared.Event.the-variants.{Begin, Commit, Abort, Operation as Invoke, Delegate, CommitOne, AbortOne};
-
-// How a transaction stands.
-pub enum Phase {
-    Idle,
-    Active,
-    Committed,
-    Aborted,
-}
-
-pub struct Transaction {
-    pub phase: Phase,
-}
-
-// How everything stands between two events.
-pub struct State {
-    pub transactions: [Transaction; Book::TRANSACTIONS],
-    pub ops: Ops,
-}
+ghost use Rattle.ties.specs.Operations.{mostOperations, opAt, isActive as isActiveOperation};
+ghost use Rattle.ties.specs.Ties.{beforeMade, beforeGiven, ringWith, mustWait};
+ghost use Rattle.cells.specs.Cells.{opsIn};
+ghost use Rattle.tables.specs.declared.Tables.{Tables};
+ghost use Rattle.tables.specs.Sorts.{isKnown, isSaga, isUndo, isPlain};
+ghost use Rattle.sheet.specs.Sheet.{Holds, sortAt, objectsOn};
+ghost use Rattle.rules.specs.Lent.{transactionsIn};
+ghost use Rattle.rules.specs.Rules.{inactive, beginBarred, commitBarred, abortBarred, activeUndo};
+ghost use Rattle.rules.specs.States.{isIdle, phaseOf};
+ghost use Rattle.judge.specs.Lent.{stateIn, Whole, Fitting};
+ghost use Rattle.judge.specs.Judge.{beginLines, commitLines, abortLines, operationLines, delegateLines, singleLines, commitOneLines, verdictBy, noParty, changeOf, ruledBy, refusedBy, acceptedBy, rulingOf, stateAfter, judged};
 
 // What an accepted event changes: a transaction enters a phase; or ends, and its operations with it; an operation ends alone; is made;
 // or given.
@@ -55,325 +45,188 @@ pub struct Ruling {
     pub change: Change,
 }
 
-// The verdict on an event, and the state after it.
-pub struct Judged {
+// The verdict on an event, and how many operations there are after it.
+pub struct Taken {
     pub verdict: Verdict,
-    pub state: State,
+    pub count: usize,
 }
 
-impl Phase {
-    pub fn is_idle(self) -> bool
-        ensures { λ r. ⌜ r ≡ isIdle self ⌝ }
-    {
-        match self {
-            Phase::Idle => true,
-            Phase::Active => false,
-            Phase::Committed => false,
-            Phase::Aborted => false,
-        }
-    }
+// ---- the tests of the lines, each named for what it refuses
 
-    pub fn is_active(self) -> bool
-        ensures { λ r. ⌜ r ≡ isActive self ⌝ }
-    {
-        match self {
-            Phase::Idle => false,
-            Phase::Active => true,
-            Phase::Committed => false,
-            Phase::Aborted => false,
-        }
-    }
-
-    pub fn is_committed(self) -> bool
-        ensures { λ r. ⌜ r ≡ isCommitted self ⌝ }
-    {
-        match self {
-            Phase::Idle => false,
-            Phase::Active => false,
-            Phase::Committed => true,
-            Phase::Aborted => false,
-        }
-    }
-
-    pub fn is_aborted(self) -> bool
-        ensures { λ r. ⌜ r ≡ isAborted self ⌝ }
-    {
-        match self {
-            Phase::Idle => false,
-            Phase::Active => false,
-            Phase::Committed => false,
-            Phase::Aborted => true,
-        }
-    }
-}
-
-impl Transaction {
-    // In another phase, with whatever else it has.
-    fn in_phase(self, phase: Phase) -> Transaction
-        ensures { λ r. ⌜ r ≡ inPhase phase self ⌝ }
-    {
-        Transaction { phase }
-    }
-}
-
-// The phase of t; what is no transaction is idle.
-pub fn phase_of(transactions: [Transaction; Book::TRANSACTIONS], t: usize) -> Phase
-    ensures { λ r. ⌜ r ≡ phaseOf transactions t ⌝ }
+fn unknown(sheet: &[u32; Sheet::NUMBERS], t: usize) -> bool
+    ensures { λ r. ⌜ r ≡ not (isKnown (sortAt (now (sheet .entry)) t)) ⌝ }
 {
-    if Book::TRANSACTIONS <= t {
-        return Phase::Idle;
-    }
-    let x = transactions[t];
-    x.phase
+    let sort = sheet::sort_at(sheet, t);
+    !sort.is_known()
 }
 
-// The phase of one of a saga's own, counted from the saga.
-pub fn own(transactions: [Transaction; Book::TRANSACTIONS], first: u16, k: u32) -> Phase
-    ensures { λ r. ⌜ r ≡ own transactions first k ⌝ }
+fn is_saga(sheet: &[u32; Sheet::NUMBERS], t: usize) -> bool
+    ensures { λ r. ⌜ r ≡ isSaga (sortAt (now (sheet .entry)) t) ⌝ }
 {
-    let t = first as usize + k as usize;
-    phase_of(transactions, t)
+    let sort = sheet::sort_at(sheet, t);
+    sort.is_saga()
 }
 
-// t enters a phase.
-fn entered(
-    transactions: [Transaction; Book::TRANSACTIONS],
-    t: usize,
-    phase: Phase,
-) -> [Transaction; Book::TRANSACTIONS]
-    ensures { λ r. ⌜ r ≡ entered phase t transactions ⌝ }
+fn is_undo(sheet: &[u32; Sheet::NUMBERS], t: usize) -> bool
+    ensures { λ r. ⌜ r ≡ isUndo (sortAt (now (sheet .entry)) t) ⌝ }
 {
-    let mut next = transactions;
-    if t < Book::TRANSACTIONS {
-        let x = transactions[t];
-        next[t] = x.in_phase(phase);
-    }
-    next
+    let sort = sheet::sort_at(sheet, t);
+    sort.is_undo()
 }
 
-// T1 begins while its saga is active, a later step when the one before it is committed too.
-fn step_begins(transactions: [Transaction; Book::TRANSACTIONS], first: u16, i: u16) -> bool
-    ensures { λ r. ⌜ r ≡ stepBegins (own transactions first) i ⌝ }
+fn not_plain(sheet: &[u32; Sheet::NUMBERS], t: usize) -> bool
+    ensures { λ r. ⌜ r ≡ not (isPlain (sortAt (now (sheet .entry)) t)) ⌝ }
 {
-    let s = own(transactions, first, 0);
-    if i <= 1 {
-        return s.is_active();
-    }
-    let k = i - 1;
-    let earlier = own(transactions, first, k as u32);
-    s.is_active() & earlier.is_committed()
+    let sort = sheet::sort_at(sheet, t);
+    !sort.is_plain()
 }
 
-// C(i) begins when S is aborted, T(i) is committed, T(i+1) is not active and, if committed, undone.
-fn undo_begins(transactions: [Transaction; Book::TRANSACTIONS], first: u16, n: u16, i: u16) -> bool
-    ensures { λ r. ⌜ r ≡ undoBegins n (own transactions first) i ⌝ }
+fn not_idle(transactions: &[u32; Book::TRANSACTIONS], t: usize) -> bool
+    ensures { λ r. ⌜ r ≡ not (isIdle (phaseOf (transactionsIn (now (transactions .entry))) t)) ⌝ }
 {
-    let steps = n as u32;
-    let this = i as u32;
-    let next = this + 1;
-    let back = steps + next;
-    let s = own(transactions, first, 0);
-    let t = own(transactions, first, this);
-    let u = own(transactions, first, next);
-    let c = own(transactions, first, back);
-    s.is_aborted()
-        & (t.is_committed()
-            & (!u.is_active() & (!u.is_committed() | ((next < steps) & c.is_committed()))))
+    let phase = rules::phase_at(transactions, t);
+    !phase.is_idle()
 }
 
-fn begin_barred(transactions: [Transaction; Book::TRANSACTIONS], sort: Sort) -> bool
-    ensures { λ r. ⌜ r ≡ beginBarred transactions sort ⌝ }
+fn inactive(transactions: &[u32; Book::TRANSACTIONS], t: usize) -> bool
+    ensures { λ r. ⌜ r ≡ inactive (transactionsIn (now (transactions .entry))) t ⌝ }
 {
-    match sort {
-        Sort::Saga(_, _) => false,
-        Sort::Step(f, _, i) => !step_begins(transactions, f, i),
-        Sort::Undo(f, n, i) => !undo_begins(transactions, f, n, i),
-        Sort::Plain => false,
-        Sort::Unknown => false,
-    }
+    let phase = rules::phase_at(transactions, t);
+    !phase.is_active()
 }
 
-fn commit_barred(transactions: [Transaction; Book::TRANSACTIONS], sort: Sort) -> bool
-    ensures { λ r. ⌜ r ≡ commitBarred transactions sort ⌝ }
-{
-    match sort {
-        Sort::Saga(f, n) => {
-            let last = own(transactions, f, n as u32);
-            !last.is_committed()
-        }
-        Sort::Step(f, _, _) => {
-            let s = own(transactions, f, 0);
-            !s.is_active()
-        }
-        Sort::Undo(_, _, _) => false,
-        Sort::Plain => false,
-        Sort::Unknown => false,
-    }
-}
-
-fn abort_barred(transactions: [Transaction; Book::TRANSACTIONS], sort: Sort) -> bool
-    ensures { λ r. ⌜ r ≡ abortBarred transactions sort ⌝ }
-{
-    match sort {
-        Sort::Saga(f, n) => {
-            let last = own(transactions, f, n as u32);
-            last.is_committed()
-        }
-        Sort::Step(_, _, _) => false,
-        Sort::Undo(_, _, _) => false,
-        Sort::Plain => false,
-        Sort::Unknown => false,
-    }
-}
-
-// Whether a dependency of this kind forbids its dependent to commit while its base is in this phase.
-fn commit_bars(kind: Kind, base: Phase) -> bool
-    ensures { λ r. ⌜ r ≡ commitBars kind base ⌝ }
-{
-    match kind {
-        Kind::Commit => !(base.is_committed() | base.is_aborted()),
-        Kind::Abort => !base.is_committed(),
-        Kind::WeakAbort => base.is_aborted(),
-        Kind::Begin => false,
-        Kind::Serial => false,
-        Kind::BeginOnCommit => false,
-        Kind::BeginOnAbort => false,
-    }
-}
-
-// The same for its begin.
-fn begin_bars(kind: Kind, base: Phase) -> bool
-    ensures { λ r. ⌜ r ≡ beginBars kind base ⌝ }
-{
-    match kind {
-        Kind::Commit => false,
-        Kind::Abort => false,
-        Kind::WeakAbort => false,
-        Kind::Begin => base.is_idle(),
-        Kind::Serial => !(base.is_committed() | base.is_aborted()),
-        Kind::BeginOnCommit => !base.is_committed(),
-        Kind::BeginOnAbort => !base.is_aborted(),
-    }
-}
-
-fn kind_bars(begins: bool, kind: Kind, base: Phase) -> bool
-    ensures { λ r. ⌜ r ≡ kindBars begins kind base ⌝ }
-{
-    if begins {
-        return begin_bars(kind, base);
-    }
-    commit_bars(kind, base)
-}
-
-// Whether a declared dependency forbids the begin, or the commit, of t.
-fn declared_bars(
-    begins: bool,
-    tables: Tables,
-    transactions: [Transaction; Book::TRANSACTIONS],
+// The saga rules forbid that t begins, commits or aborts.
+fn begin_forbidden(
+    sheet: &[u32; Sheet::NUMBERS],
+    transactions: &[u32; Book::TRANSACTIONS],
     t: usize,
 ) -> bool
-    ensures { λ r. ⌜ r ≡ declaredBars begins tables transactions t ⌝ }
+    ensures { λ r. ⌜ r ≡ beginBarred (transactionsIn (now (transactions .entry))) (sortAt (now (sheet .entry)) t) ⌝ }
 {
-    let n = tables.dependency_count();
-    let mut i: usize = 0;
-    while i < n {
-        let d = tables.dependencies[i];
-        let dependent = d.dependent as usize;
-        if dependent == t {
-            let base = d.base as usize;
-            let kind = d.kind;
-            let mut phase = Phase::Idle;
-            if base < Book::TRANSACTIONS {
-                let x = transactions[base];
-                phase = x.phase;
-            }
-            if kind_bars(begins, kind, phase) {
-                return true;
-            }
-        }
-        i += 1;
-    }
-    false
+    let sort = sheet::sort_at(sheet, t);
+    rules::begin_barred(transactions, sort)
+}
+
+fn commit_forbidden(
+    sheet: &[u32; Sheet::NUMBERS],
+    transactions: &[u32; Book::TRANSACTIONS],
+    t: usize,
+) -> bool
+    ensures { λ r. ⌜ r ≡ commitBarred (transactionsIn (now (transactions .entry))) (sortAt (now (sheet .entry)) t) ⌝ }
+{
+    let sort = sheet::sort_at(sheet, t);
+    rules::commit_barred(transactions, sort)
+}
+
+fn abort_forbidden(
+    sheet: &[u32; Sheet::NUMBERS],
+    transactions: &[u32; Book::TRANSACTIONS],
+    t: usize,
+) -> bool
+    ensures { λ r. ⌜ r ≡ abortBarred (transactionsIn (now (transactions .entry))) (sortAt (now (sheet .entry)) t) ⌝ }
+{
+    let sort = sheet::sort_at(sheet, t);
+    rules::abort_barred(transactions, sort)
+}
+
+fn unknown_object(sheet: &[u32; Sheet::NUMBERS], o: usize) -> bool
+    ensures { λ r. ⌜ r ≡ not (ltb o (min (objectsOn (now (sheet .entry))) mostObjects)) ⌝ }
+{
+    let objects = sheet::count_in(sheet[Sheet::OBJECTS], Book::OBJECTS);
+    !(o < objects)
+}
+
+// No operation is numbered so, of as many as there are.
+fn not_accepted(n: usize, q: usize) -> bool
+    ensures { λ r. ⌜ r ≡ not (ltb q (min n mostOperations)) ⌝ }
+{
+    let all = cells::size(n);
+    !(q < all)
 }
 
 // A saga and an undo take no part in a delegation.
-fn no_party(sort: Sort) -> bool
-    ensures { λ r. ⌜ r ≡ noParty sort ⌝ }
+fn no_party(sheet: &[u32; Sheet::NUMBERS], t: usize) -> bool
+    ensures { λ r. ⌜ r ≡ noParty (sortAt (now (sheet .entry)) t) ⌝ }
 {
+    let sort = sheet::sort_at(sheet, t);
     sort.is_saga() | sort.is_undo()
 }
 
-// Whether the operation is an undo's that must wait.
-fn undo_waits(sort: Sort, ops: Ops, t: usize, object: usize, mark: Mark) -> bool
-    ensures { λ r. ⌜ r ≡ (isUndo sort && mustWait ops t object mark) ⌝ }
+fn not_responsible(ops: &[u32; Operation::MOST], q: usize, t: usize) -> bool
+    requires { ⌜ q < mostOperations ⌝ }
+    ensures { λ r. ⌜ ((n : ℕ) → r ≡ not (eqb (opAt (opsIn (now (ops .entry)) n) q .responsible) t)) ⌝ }
 {
-    if sort.is_undo() {
-        return ops.must_wait(t, object, mark);
+    let op = cells::op_in(ops[q]);
+    let holder = op.responsible as usize;
+    holder != t
+}
+
+fn already_ended(ops: &[u32; Operation::MOST], q: usize) -> bool
+    requires { ⌜ q < mostOperations ⌝ }
+    ensures { λ r. ⌜ ((n : ℕ) → r ≡ not (isActiveOperation (opAt (opsIn (now (ops .entry)) n) q .fate))) ⌝ }
+{
+    let op = cells::op_in(ops[q]);
+    let fate = op.fate;
+    !fate.is_active()
+}
+
+// The operation is an undo's, which has to wait for another's that is active.
+fn must_wait(
+    sheet: &[u32; Sheet::NUMBERS],
+    ops: &[u32; Operation::MOST],
+    n: usize,
+    t: usize,
+    object: usize,
+    mark: Mark,
+) -> bool
+    ensures { λ r. ⌜ r ≡ (isUndo (sortAt (now (sheet .entry)) t) && mustWait (opsIn (now (ops .entry)) n) t object mark) ⌝ }
+{
+    if is_undo(sheet, t) {
+        return cells::must_wait(ops, n, t, object, mark);
     }
     false
 }
 
-// The set of undos that are active; they are among the numbers that sagas own.
-fn active_undos(tables: Tables, transactions: [Transaction; Book::TRANSACTIONS]) -> u64
-    ensures { λ r. ⌜ r ≡ activeUndos tables transactions ⌝ }
-{
-    let past = tables::saga_at(tables, Book::SAGAS);
-    let owned = past.first as usize;
-    let mut set: u64 = 0;
-    let mut t: usize = 0;
-    while t < owned {
-        if Book::TRANSACTIONS <= t {
-            return set;
-        }
-        let x = transactions[t];
-        let phase = x.phase;
-        if phase.is_active() {
-            let sort = tables::sort_of(tables, t);
-            if sort.is_undo() {
-                set = sets::with_member(set, t);
-            }
-        }
-        t += 1;
-    }
-    set
-}
-
-// Whether this operation, if it is invoked, puts an active undo on a ring; without an active undo nothing is searched.
+// This operation, if it is invoked, puts an active undo on a ring; without an active undo nothing is searched.
 fn rings_an_undo(
-    tables: Tables,
-    transactions: [Transaction; Book::TRANSACTIONS],
-    ops: Ops,
+    sheet: &[u32; Sheet::NUMBERS],
+    transactions: &[u32; Book::TRANSACTIONS],
+    ops: &[u32; Operation::MOST],
+    n: usize,
     op: Operation,
 ) -> bool
-    ensures { λ r. ⌜ r ≡ ringWith (beforeMade ops op) (activeUndo tables transactions) (op .responsible) ⌝ }
+    ensures { λ r. ⌜ ((tables : Tables) → Holds tables (now (sheet .entry)) → r ≡ ringWith (beforeMade (opsIn (now (ops .entry)) n) op) (activeUndo tables (transactionsIn (now (transactions .entry)))) (op .responsible)) ⌝ }
 {
-    let undos = active_undos(tables, transactions);
+    let undos = rules::active_undos(sheet, transactions);
     if undos == 0 {
         return false;
     }
-    rings::ring_made(ops, op, undos)
+    rows::ring_made(ops, n, op, undos)
 }
 
-// Whether operation q, which stands so, puts an active undo on a ring if it is given to a receiver; one that has ended does not.
+// Operation q, if it is given to a receiver, puts an active undo on a ring; one that has ended does not.
 fn gives_a_ring(
-    tables: Tables,
-    transactions: [Transaction; Book::TRANSACTIONS],
-    ops: Ops,
+    sheet: &[u32; Sheet::NUMBERS],
+    transactions: &[u32; Book::TRANSACTIONS],
+    ops: &[u32; Operation::MOST],
+    n: usize,
     q: usize,
-    fate: Fate,
     receiver: u16,
 ) -> bool
-    ensures { λ r. ⌜ r ≡ (isActiveOperation fate && ringWith (beforeGiven ops q receiver) (activeUndo tables transactions) receiver) ⌝ }
+    requires { ⌜ q < mostOperations ⌝ }
+    ensures { λ r. ⌜ ((tables : Tables) → Holds tables (now (sheet .entry)) → r ≡ (isActiveOperation (opAt (opsIn (now (ops .entry)) n) q .fate) && ringWith (beforeGiven (opsIn (now (ops .entry)) n) q receiver) (activeUndo tables (transactionsIn (now (transactions .entry)))) receiver)) ⌝ }
 {
-    if !fate.is_active() {
+    if already_ended(ops, q) {
         return false;
     }
-    let undos = active_undos(tables, transactions);
+    let undos = rules::active_undos(sheet, transactions);
     if undos == 0 {
         return false;
     }
-    rings::ring_given(ops, q, receiver, undos)
+    rows::ring_given(ops, n, q, receiver, undos)
 }
+
+// ---- the events: each goes along its lines
 
 // A refused event changes nothing.
 fn refused(refusal: Refusal) -> Ruling
@@ -385,344 +238,317 @@ fn refused(refusal: Refusal) -> Ruling
     }
 }
 
-fn begin(tables: Tables, transactions: [Transaction; Book::TRANSACTIONS], t: usize) -> Ruling
-    ensures { λ r. ⌜ r ≡ ruledBy (beginLines tables transactions t) (changeOf (Begin t)) ⌝ }
+fn accepted(change: Change) -> Ruling
+    ensures { λ r. ⌜ r ≡ acceptedBy change ⌝ }
 {
-    let sort = tables::sort_of(tables, t);
-    if !sort.is_known() {
-        return refused(Refusal::NotInTables);
-    }
-    let phase = phase_of(transactions, t);
-    if !phase.is_idle() {
-        return refused(Refusal::NotIdle);
-    }
-    if begin_barred(transactions, sort) {
-        return refused(Refusal::SagaRule);
-    }
-    if declared_bars(true, tables, transactions, t) {
-        return refused(Refusal::DependencyRule);
-    }
     Ruling {
         verdict: Verdict::Accepted,
-        change: Change::Enters(t, Phase::Active),
+        change,
     }
+}
+
+fn begin(
+    sheet: &[u32; Sheet::NUMBERS],
+    transactions: &[u32; Book::TRANSACTIONS],
+    t: usize,
+) -> Ruling
+    ensures { λ r. ⌜ ((tables : Tables) → Holds tables (now (sheet .entry)) → r ≡ ruledBy (beginLines tables (transactionsIn (now (transactions .entry))) t) (changeOf (Begin t))) ⌝ }
+{
+    if unknown(sheet, t) {
+        return refused(Refusal::NotInTables);
+    }
+    if not_idle(transactions, t) {
+        return refused(Refusal::NotIdle);
+    }
+    if begin_forbidden(sheet, transactions, t) {
+        return refused(Refusal::SagaRule);
+    }
+    if rules::declared_bars(true, sheet, transactions, t) {
+        return refused(Refusal::DependencyRule);
+    }
+    accepted(Change::Enters(t, Phase::Active))
 }
 
 fn commit(
-    tables: Tables,
-    transactions: [Transaction; Book::TRANSACTIONS],
-    ops: Ops,
+    sheet: &[u32; Sheet::NUMBERS],
+    transactions: &[u32; Book::TRANSACTIONS],
+    ops: &[u32; Operation::MOST],
+    n: usize,
     t: usize,
 ) -> Ruling
-    ensures { λ r. ⌜ r ≡ ruledBy (commitLines tables transactions ops t) (changeOf (Commit t)) ⌝ }
+    ensures { λ r. ⌜ ((tables : Tables) → Holds tables (now (sheet .entry)) → r ≡ ruledBy (commitLines tables (transactionsIn (now (transactions .entry))) (opsIn (now (ops .entry)) n) t) (changeOf (Commit t))) ⌝ }
 {
-    let sort = tables::sort_of(tables, t);
-    if !sort.is_known() {
+    if unknown(sheet, t) {
         return refused(Refusal::NotInTables);
     }
-    let phase = phase_of(transactions, t);
-    if !phase.is_active() {
+    if inactive(transactions, t) {
         return refused(Refusal::NotActive);
     }
-    if commit_barred(transactions, sort) {
+    if commit_forbidden(sheet, transactions, t) {
         return refused(Refusal::SagaRule);
     }
-    if declared_bars(false, tables, transactions, t) {
+    if rules::declared_bars(false, sheet, transactions, t) {
         return refused(Refusal::DependencyRule);
     }
-    if ops.dirty(t) {
+    if cells::dirty(ops, n, t) {
         return refused(Refusal::DirtyRead);
     }
-    if rings::on_ring(ops, t) {
+    if rings::on_ring(ops, n, t) {
         return refused(Refusal::OnRing);
     }
-    Ruling {
-        verdict: Verdict::Accepted,
-        change: Change::Ends(t, Phase::Committed, Fate::Committed),
-    }
+    accepted(Change::Ends(t, Phase::Committed, Fate::Committed))
 }
 
-fn abort(tables: Tables, transactions: [Transaction; Book::TRANSACTIONS], t: usize) -> Ruling
-    ensures { λ r. ⌜ r ≡ ruledBy (abortLines tables transactions t) (changeOf (Abort t)) ⌝ }
+fn abort(
+    sheet: &[u32; Sheet::NUMBERS],
+    transactions: &[u32; Book::TRANSACTIONS],
+    t: usize,
+) -> Ruling
+    ensures { λ r. ⌜ ((tables : Tables) → Holds tables (now (sheet .entry)) → r ≡ ruledBy (abortLines tables (transactionsIn (now (transactions .entry))) t) (changeOf (Abort t))) ⌝ }
 {
-    let sort = tables::sort_of(tables, t);
-    if !sort.is_known() {
+    if unknown(sheet, t) {
         return refused(Refusal::NotInTables);
     }
-    if sort.is_undo() {
+    if is_undo(sheet, t) {
         return refused(Refusal::NeverDoes);
     }
-    let phase = phase_of(transactions, t);
-    if !phase.is_active() {
+    if inactive(transactions, t) {
         return refused(Refusal::NotActive);
     }
-    if abort_barred(transactions, sort) {
+    if abort_forbidden(sheet, transactions, t) {
         return refused(Refusal::SagaRule);
     }
-    Ruling {
-        verdict: Verdict::Accepted,
-        change: Change::Ends(t, Phase::Aborted, Fate::Aborted),
-    }
+    accepted(Change::Ends(t, Phase::Aborted, Fate::Aborted))
 }
 
 fn operation(
-    tables: Tables,
-    transactions: [Transaction; Book::TRANSACTIONS],
-    ops: Ops,
+    sheet: &[u32; Sheet::NUMBERS],
+    transactions: &[u32; Book::TRANSACTIONS],
+    ops: &[u32; Operation::MOST],
+    n: usize,
     t: usize,
     object: usize,
     mark: Mark,
 ) -> Ruling
-    ensures { λ r. ⌜ r ≡ ruledBy (operationLines tables transactions ops t object mark) (changeOf (Invoke t object mark)) ⌝ }
+    ensures { λ r. ⌜ ((tables : Tables) → Holds tables (now (sheet .entry)) → r ≡ ruledBy (operationLines tables (transactionsIn (now (transactions .entry))) (opsIn (now (ops .entry)) n) t object mark) (changeOf (Invoke t object mark))) ⌝ }
 {
-    let objects = tables.object_count();
-    let count = ops.count;
-    let sort = tables::sort_of(tables, t);
-    if !sort.is_known() | !(object < objects) {
+    if unknown(sheet, t) | unknown_object(sheet, object) {
         return refused(Refusal::NotInTables);
     }
-    if sort.is_saga() {
+    if is_saga(sheet, t) {
         return refused(Refusal::NeverDoes);
     }
-    let phase = phase_of(transactions, t);
-    if !phase.is_active() {
+    if inactive(transactions, t) {
         return refused(Refusal::NotActive);
     }
-    if undo_waits(sort, ops, t, object, mark) {
+    if must_wait(sheet, ops, n, t, object, mark) {
         return refused(Refusal::MustWait);
     }
-    let on = object as u8;
-    let by = t as u16;
     let op = Operation {
-        object: on,
+        object: object as u8,
         mark,
-        responsible: by,
+        responsible: t as u16,
         fate: Fate::Active,
         ended: 0,
     };
-    if rings_an_undo(tables, transactions, ops, op) {
+    if rings_an_undo(sheet, transactions, ops, n, op) {
         return refused(Refusal::UndoOnRing);
     }
-    if Operation::MOST <= count {
+    if Operation::MOST <= n {
         return refused(Refusal::Full);
     }
-    Ruling {
-        verdict: Verdict::Accepted,
-        change: Change::Makes(op),
-    }
+    accepted(Change::Makes(op))
 }
 
 fn delegate(
-    tables: Tables,
-    transactions: [Transaction; Book::TRANSACTIONS],
-    ops: Ops,
+    sheet: &[u32; Sheet::NUMBERS],
+    transactions: &[u32; Book::TRANSACTIONS],
+    ops: &[u32; Operation::MOST],
+    n: usize,
     t: usize,
     receiver: usize,
     q: usize,
 ) -> Ruling
-    ensures { λ r. ⌜ r ≡ ruledBy (delegateLines tables transactions ops t receiver q) (changeOf (Delegate t receiver q)) ⌝ }
+    ensures { λ r. ⌜ ((tables : Tables) → Holds tables (now (sheet .entry)) → r ≡ ruledBy (delegateLines tables (transactionsIn (now (transactions .entry))) (opsIn (now (ops .entry)) n) t receiver q) (changeOf (Delegate t receiver q))) ⌝ }
 {
-    let n = ops.size();
-    let sort = tables::sort_of(tables, t);
-    let other = tables::sort_of(tables, receiver);
-    if !sort.is_known() | (!other.is_known() | !(q < n)) {
+    if unknown(sheet, t) | (unknown(sheet, receiver) | not_accepted(n, q)) {
         return refused(Refusal::NotInTables);
     }
-    if no_party(sort) | (no_party(other) | (t == receiver)) {
+    if no_party(sheet, t) | (no_party(sheet, receiver) | (t == receiver)) {
         return refused(Refusal::NeverDoes);
     }
-    let giving = phase_of(transactions, t);
-    let taking = phase_of(transactions, receiver);
-    if !giving.is_active() | !taking.is_active() {
+    if inactive(transactions, t) | inactive(transactions, receiver) {
         return refused(Refusal::NotActive);
     }
-    let op = ops.all[q];
-    let responsible = op.responsible as usize;
-    if responsible != t {
+    if not_responsible(ops, q, t) {
         return refused(Refusal::NotResponsible);
     }
-    let fate = op.fate;
     let to = receiver as u16;
-    if gives_a_ring(tables, transactions, ops, q, fate, to) {
+    if gives_a_ring(sheet, transactions, ops, n, q, to) {
         return refused(Refusal::UndoOnRing);
     }
-    Ruling {
-        verdict: Verdict::Accepted,
-        change: Change::Gives(q, to),
-    }
+    accepted(Change::Gives(q, to))
 }
 
 // What the commit and the abort of one operation both have to pass: a plain and active transaction, and an active operation of its own.
 fn single(
-    tables: Tables,
-    transactions: [Transaction; Book::TRANSACTIONS],
-    ops: Ops,
+    sheet: &[u32; Sheet::NUMBERS],
+    transactions: &[u32; Book::TRANSACTIONS],
+    ops: &[u32; Operation::MOST],
+    n: usize,
     t: usize,
     q: usize,
 ) -> Verdict
-    ensures { λ r. ⌜ r ≡ verdictBy (singleLines tables transactions ops t q) ⌝ }
+    ensures { λ r. ⌜ ((tables : Tables) → Holds tables (now (sheet .entry)) → r ≡ verdictBy (singleLines tables (transactionsIn (now (transactions .entry))) (opsIn (now (ops .entry)) n) t q)) ⌝ }
 {
-    let n = ops.size();
-    let sort = tables::sort_of(tables, t);
-    if !sort.is_known() | !(q < n) {
+    if unknown(sheet, t) | not_accepted(n, q) {
         return Verdict::Refused(Refusal::NotInTables);
     }
-    if !sort.is_plain() {
+    if not_plain(sheet, t) {
         return Verdict::Refused(Refusal::NeverDoes);
     }
-    let phase = phase_of(transactions, t);
-    if !phase.is_active() {
+    if inactive(transactions, t) {
         return Verdict::Refused(Refusal::NotActive);
     }
-    let op = ops.all[q];
-    let holder = op.responsible as usize;
-    if holder != t {
+    if not_responsible(ops, q, t) {
         return Verdict::Refused(Refusal::NotResponsible);
     }
-    let fate = op.fate;
-    if !fate.is_active() {
+    if already_ended(ops, q) {
         return Verdict::Refused(Refusal::AlreadyEnded);
     }
     Verdict::Accepted
 }
 
 fn commit_one(
-    tables: Tables,
-    transactions: [Transaction; Book::TRANSACTIONS],
-    ops: Ops,
+    sheet: &[u32; Sheet::NUMBERS],
+    transactions: &[u32; Book::TRANSACTIONS],
+    ops: &[u32; Operation::MOST],
+    n: usize,
     t: usize,
     q: usize,
 ) -> Ruling
-    ensures { λ r. ⌜ r ≡ ruledBy (commitOneLines tables transactions ops t q) (changeOf (CommitOne t q)) ⌝ }
+    ensures { λ r. ⌜ ((tables : Tables) → Holds tables (now (sheet .entry)) → r ≡ ruledBy (commitOneLines tables (transactionsIn (now (transactions .entry))) (opsIn (now (ops .entry)) n) t q) (changeOf (CommitOne t q))) ⌝ }
 {
-    let allowed = single(tables, transactions, ops, t, q);
+    let allowed = single(sheet, transactions, ops, n, t, q);
     let Verdict::Accepted = allowed else {
         return Ruling {
             verdict: allowed,
             change: Change::Nothing,
         };
     };
-    if ops.dirty_one(t, q) {
+    if cells::dirty_one(ops, n, t, q) {
         return refused(Refusal::DirtyRead);
     }
-    let ringed = rings::on_ring(ops, t);
-    if ringed {
+    if rings::on_ring(ops, n, t) {
         return refused(Refusal::OnRing);
     }
-    Ruling {
-        verdict: Verdict::Accepted,
-        change: Change::EndsOne(q, Fate::Committed),
-    }
+    accepted(Change::EndsOne(q, Fate::Committed))
 }
 
 fn abort_one(
-    tables: Tables,
-    transactions: [Transaction; Book::TRANSACTIONS],
-    ops: Ops,
+    sheet: &[u32; Sheet::NUMBERS],
+    transactions: &[u32; Book::TRANSACTIONS],
+    ops: &[u32; Operation::MOST],
+    n: usize,
     t: usize,
     q: usize,
 ) -> Ruling
-    ensures { λ r. ⌜ r ≡ ruledBy (singleLines tables transactions ops t q) (changeOf (AbortOne t q)) ⌝ }
+    ensures { λ r. ⌜ ((tables : Tables) → Holds tables (now (sheet .entry)) → r ≡ ruledBy (singleLines tables (transactionsIn (now (transactions .entry))) (opsIn (now (ops .entry)) n) t q) (changeOf (AbortOne t q))) ⌝ }
 {
-    let allowed = single(tables, transactions, ops, t, q);
+    let allowed = single(sheet, transactions, ops, n, t, q);
     let Verdict::Accepted = allowed else {
         return Ruling {
             verdict: allowed,
             change: Change::Nothing,
         };
     };
-    Ruling {
-        verdict: Verdict::Accepted,
-        change: Change::EndsOne(q, Fate::Aborted),
-    }
+    accepted(Change::EndsOne(q, Fate::Aborted))
 }
 
-// The verdict on an event and what it changes, for a caller that keeps its own state.
-pub fn rule(tables: Tables, state: State, event: Event) -> Ruling
-    ensures { λ r. ⌜ r ≡ rulingOf tables state event ⌝ }
+// The verdict on an event and what it would change; nothing is touched, so that a caller can ask first. It holds of the tables that the sheet was made of.
+pub fn rule(
+    sheet: &[u32; Sheet::NUMBERS],
+    transactions: &[u32; Book::TRANSACTIONS],
+    ops: &[u32; Operation::MOST],
+    n: usize,
+    event: Event,
+) -> Ruling
+    ensures { λ r. ⌜ ((tables : Tables) → Holds tables (now (sheet .entry)) → r ≡ rulingOf tables (stateIn (now (transactions .entry)) (now (ops .entry)) n) event) ⌝ }
 {
-    let transactions = state.transactions;
-    let ops = state.ops;
     match event {
-        Event::Begin(t) => begin(tables, transactions, t),
-        Event::Commit(t) => commit(tables, transactions, ops, t),
-        Event::Abort(t) => abort(tables, transactions, t),
-        Event::Operation(t, object, mark) => operation(tables, transactions, ops, t, object, mark),
-        Event::Delegate(t, receiver, q) => delegate(tables, transactions, ops, t, receiver, q),
-        Event::CommitOne(t, q) => commit_one(tables, transactions, ops, t, q),
-        Event::AbortOne(t, q) => abort_one(tables, transactions, ops, t, q),
+        Event::Begin(t) => begin(sheet, transactions, t),
+        Event::Commit(t) => commit(sheet, transactions, ops, n, t),
+        Event::Abort(t) => abort(sheet, transactions, t),
+        Event::Operation(t, object, mark) => {
+            operation(sheet, transactions, ops, n, t, object, mark)
+        }
+        Event::Delegate(t, receiver, q) => delegate(sheet, transactions, ops, n, t, receiver, q),
+        Event::CommitOne(t, q) => commit_one(sheet, transactions, ops, n, t, q),
+        Event::AbortOne(t, q) => abort_one(sheet, transactions, ops, n, t, q),
     }
 }
 
-impl State {
-    // Before the first event.
-    pub fn empty() -> State
-        ensures { λ r. ⌜ r ≡ emptyState ⌝ }
-    {
-        let idle = Transaction { phase: Phase::Idle };
-        let transactions = [idle; Book::TRANSACTIONS];
-        let ops = Ops::none();
-        State { transactions, ops }
-    }
-
-    // The state with a change made in it.
-    pub fn changed(self, change: Change) -> State
-        ensures { λ r. ⌜ r ≡ stateAfter change self ⌝ }
-    {
-        let transactions = self.transactions;
-        let ops = self.ops;
-        match change {
-            Change::Nothing => self,
-            Change::Enters(t, phase) => {
-                let next = entered(transactions, t, phase);
-                State {
-                    transactions: next,
-                    ops,
-                }
-            }
-            Change::Ends(t, phase, fate) => {
-                let next = entered(transactions, t, phase);
-                let rest = ops.ended(t, fate);
-                State {
-                    transactions: next,
-                    ops: rest,
-                }
-            }
-            Change::EndsOne(q, fate) => {
-                let rest = ops.ended_one(q, fate);
-                State {
-                    transactions,
-                    ops: rest,
-                }
-            }
-            Change::Makes(op) => {
-                let more = ops.made(op);
-                State {
-                    transactions,
-                    ops: more,
-                }
-            }
-            Change::Gives(q, receiver) => {
-                let rest = ops.given(q, receiver);
-                State {
-                    transactions,
-                    ops: rest,
-                }
-            }
+// Makes a change in the lent numbers; how many operations there are then.
+fn changed(
+    transactions: &mut [u32; Book::TRANSACTIONS],
+    ops: &mut [u32; Operation::MOST],
+    n: usize,
+    change: Change,
+) -> usize
+    ensures { λ r. ⌜ (Fitting change → stateIn (now (transactions .exit)) (now (ops .exit)) r ≡ stateAfter change (stateIn (now (transactions .entry)) (now (ops .entry)) n)) ⌝ }
+{
+    match change {
+        Change::Nothing => n,
+        Change::Enters(t, phase) => {
+            rules::enters(transactions, t, phase);
+            n
+        }
+        Change::Ends(t, phase, fate) => {
+            rules::enters(transactions, t, phase);
+            cells::ended(ops, n, t, fate);
+            n
+        }
+        Change::EndsOne(q, fate) => {
+            cells::ended_one(ops, n, q, fate);
+            n
+        }
+        Change::Makes(op) => cells::made(ops, n, op),
+        Change::Gives(q, receiver) => {
+            cells::given(ops, n, q, receiver);
+            n
         }
     }
 }
 
-// Judges one event: the verdict, and the state after it, which a refused event leaves as it was.
-pub fn judge(tables: Tables, state: State, event: Event) -> Judged
-    ensures { λ r. ⌜ r ≡ judged tables state event ⌝ }
+// Judges one event, and makes what it changes; a refused event leaves all lent numbers as they were.
+pub fn take(
+    sheet: &[u32; Sheet::NUMBERS],
+    transactions: &mut [u32; Book::TRANSACTIONS],
+    ops: &mut [u32; Operation::MOST],
+    n: usize,
+    event: Event,
+) -> Taken
+    ensures { λ r. ⌜ ((tables : Tables) → Holds tables (now (sheet .entry)) → (r .verdict ≡ judged tables (stateIn (now (transactions .entry)) (now (ops .entry)) n) event .verdict) × (stateIn (now (transactions .exit)) (now (ops .exit)) (r .count) ≡ judged tables (stateIn (now (transactions .entry)) (now (ops .entry)) n) event .state)) ⌝ }
 {
-    let ruled = rule(tables, state, event);
+    let ruled = rule(sheet, transactions, ops, n, event);
     let verdict = ruled.verdict;
     let change = ruled.change;
-    let next = state.changed(change);
-    Judged {
-        verdict,
-        state: next,
+    let count = changed(transactions, ops, n, change);
+    Taken { verdict, count }
+}
+
+// The state that lent numbers stand for, by value, as a reading hands it out.
+pub fn state_of(
+    transactions: &[u32; Book::TRANSACTIONS],
+    ops: &[u32; Operation::MOST],
+    n: usize,
+) -> State
+    ensures { λ r. ⌜ (Whole (stateIn (now (transactions .entry)) (now (ops .entry)) n) → r ≡ stateIn (now (transactions .entry)) (now (ops .entry)) n) ⌝ }
+{
+    let all = rules::transactions_of(transactions);
+    let made = cells::ops_of(ops, n);
+    State {
+        transactions: all,
+        ops: made,
     }
 }

@@ -1,10 +1,34 @@
 -- Lines: none holds exactly when the answer is `otherwise`, and a refusal is given exactly when it is that of the first line that holds.
 use mathlib.Core.Path.{_≡_, refl, sym, ap, _∙_}
+use mathlib.Core.Bool.{Bool, true, false}
 use mathlib.Core.List.{List, [], _∷_, _++_}
 use Rattle.laws.specs.Lines.{Line, firstLine, Off, FirstIs}
 use Rattle.laws.proofs.Bools.{bool-cases}
 
+-- ---- along the lines
+
+abbrev pub holdsFirst : {R : Type 0} → List (Line R) → Bool
+holdsFirst [] = false
+holdsFirst (l ∷ ls) = l .holds
+
+abbrev pub others : {R : Type 0} → List (Line R) → List (Line R)
+others [] = []
+others (l ∷ ls) = ls
+
+abbrev pub givenFirst : {R A : Type 0} → (R → A) → A → List (Line R) → A
+givenFirst given otherwise [] = otherwise
+givenFirst given otherwise (l ∷ ls) = given (l .refusal)
+
 module _ {R A : Type 0} (given : R → A) (otherwise : A) where
+  -- a line that does not hold is passed, one that holds is the answer
+  pub passed : (ls : List (Line R)) → holdsFirst ls ≡ false → firstLine given otherwise ls ≡ firstLine given otherwise (others ls)
+  passed [] e = refl
+  passed (l ∷ ls) e = rw e
+
+  pub stopped : (ls : List (Line R)) → holdsFirst ls ≡ true → firstLine given otherwise ls ≡ givenFirst given otherwise ls
+  stopped [] e = refl
+  stopped (l ∷ ls) e = rw e
+
   pub off-first : (ls : List (Line R)) → Off ls → firstLine given otherwise ls ≡ otherwise
   off-first [] h = refl
   off-first (l ∷ ls) h = rw (h .0) (off-first ls (h .1))

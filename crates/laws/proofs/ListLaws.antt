@@ -1,10 +1,11 @@
--- Lists: lengths of fields that are arrays of structs, parts of parts, and fronts of rooms.
-use mathlib.Core.Path.{_≡_, sym, ap, _∙_}
+-- Lists: lengths of fields that are arrays of structs, parts of parts, fronts of rooms, stores, and lists copied one by one.
+use mathlib.Core.Path.{_≡_, refl, sym, ap, ap₂, _∙_}
 use mathlib.Core.List.{List, [], _∷_, _++_, map}
-use Prim.Native.Nat.{ℕ, suc, _+_, _≤_, _<_}
+use Prim.Native.Nat.{ℕ, zero, suc, _+_, _≤_, _<_}
 use native.Mathlib.Numerals.{add-one}
+use native.Mathlib.Omega.{arith}
 use lib.ListN.{length, getD, set, take, drop, length-map}
-use lib.Seq.{drop-at, drop-cons, take-add, length-take-le, set-at, append-snoc}
+use lib.Seq.{drop-at, drop-cons, take-add, length-take-le, set-at, append-snoc, take-all, take-suc, take-suc-set}
 
 -- where a struct's field is an array of structs, its length is known over the mapped list
 pub length-mapped : (X Y : Type 0) (g : X → Y) (l : List X) (n : ℕ) → length (map g l) ≡ n → length l ≡ n
@@ -20,3 +21,32 @@ pub front-more : (l room : List ℕ) (n v : ℕ) → length l ≡ n → n < leng
 front-more l room n v e h =
     rw (drop-cons room n 0 h, add-one n)
     (set-at l (getD room n 0) (drop (suc n) room) v n e ∙ sym (append-snoc l v (drop (suc n) room)))
+
+-- ---- the first n of a list, and a list with f applied, after a store
+
+pub take-low : {A : Type 0} (n i : ℕ) (l : List A) (d : A) → i < n → getD (take n l) i d ≡ getD l i d
+take-low zero i l d h = absurd (omega arith)
+take-low (suc n) i [] d h = refl
+take-low (suc n) zero (x ∷ l) d h = refl
+take-low (suc n) (suc i) (x ∷ l) d h = take-low n i l d (omega arith)
+
+pub take-set : {A : Type 0} (n i : ℕ) (l : List A) (x : A) → take n (set l i x) ≡ set (take n l) i x
+take-set zero i l x = refl
+take-set (suc n) i [] x = refl
+take-set (suc n) zero (y ∷ l) x = refl
+take-set (suc n) (suc i) (y ∷ l) x = ap (λ (s : List _). y ∷ s) (take-set n i l x)
+
+pub map-set : {A B : Type 0} (f : A → B) (l : List A) (i : ℕ) (x : A) → map f (set l i x) ≡ set (map f l) i (f x)
+map-set f [] i x = refl
+map-set f (y ∷ l) zero x = refl
+map-set f (y ∷ l) (suc i) x = ap (λ (s : List _). f y ∷ s) (map-set f l i x)
+
+-- ---- copied one by one
+
+-- the first i are copied
+module _ {A : Type 0} (l : List A) (d : A) where
+  pub copied-more : (i : ℕ) (out : List A) (x : A) → take i out ≡ take i l → i < length out → i < length l → x ≡ getD l i d → take (i + 1) (set out i x) ≡ take (i + 1) l
+  copied-more i out x e h g r = rw add-one (take-suc-set out i x h ∙ ap₂ (λ (s : List A) (y : A). s ++ (y ∷ [])) e r ∙ sym (take-suc l i d g))
+
+  pub copied-all : (n i : ℕ) (out : List A) → take i out ≡ take i l → i ≡ n → length out ≡ n → length l ≡ n → out ≡ l
+  copied-all n i out e q h g = sym (take-all i out (omega arith)) ∙ e ∙ take-all i l (omega arith)

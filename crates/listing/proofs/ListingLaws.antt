@@ -17,9 +17,9 @@ use Rattle.terms.specs.declared.Mark.the-variants.{Read, Write}
 use Rattle.ties.specs.declared.Fate.{Fate}
 use Rattle.ties.specs.declared.Fate.the-variants.{Aborted as FateAborted, Active as FateActive, Committed as FateCommitted}
 use Rattle.ties.specs.declared.Operation.{Operation}
-use Rattle.judge.specs.States.{phaseOf}
-use Rattle.judge.specs.declared.Phase.{Phase}
-use Rattle.judge.specs.declared.Phase.the-variants.{Idle, Active, Committed, Aborted}
+use Rattle.rules.specs.States.{phaseOf}
+use Rattle.rules.specs.declared.Phase.{Phase}
+use Rattle.rules.specs.declared.Phase.the-variants.{Idle, Active, Committed, Aborted}
 use Rattle.closing.specs.Closing.{outstanding, closing}
 use Rattle.closing.specs.declared.NextStep.{NextStep}
 use Rattle.closing.specs.declared.NextStep.the-variants.{NoStep, ToBegin, ToCommit, ToAbort}

@@ -1,2 +1,1 @@
--- Laws of the probe.
-pub mod ProbeLaws
+-- Nothing but the proofs of the functions.

@@ -1,2 +1,2 @@
--- The event that is measured, and its answer.
+-- The definition that the contracts of `probe` cite.
 pub mod Probed

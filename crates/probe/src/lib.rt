@@ -1,95 +1,49 @@
-// A caller of the judge as a till program is one: tables and a state in its own frame, and one event judged. bench/stack runs it to see how much
-// stack that takes.
-use judge::Phase;
-use judge::State;
-use judge::Transaction;
-use tables::Tables;
+// A caller of the judge as a till program is one: it lends its sheet and its state, and asks for one event to be taken. bench/stack runs it to see how
+// much stack that takes beyond the numbers lent.
+use sheet::Sheet;
 use terms::Book;
 use terms::Event;
 use terms::Mark;
-use ties::Fate;
 use ties::Operation;
-use ties::Ops;
 ghost use mathlib.Core.Path.{_≡_};
-ghost use Rattle.probe.specs.Probed.{plainTables, writeOf, busyState, eventBy, probed};
+ghost use Rattle.terms.specs.Refusals.{verdictNumber};
+ghost use Rattle.tables.specs.declared.Tables.{Tables};
+ghost use Rattle.sheet.specs.Sheet.{Holds};
+ghost use Rattle.judge.specs.Judge.{judged};
+ghost use Rattle.judge.specs.Lent.{stateIn};
+ghost use Rattle.probe.specs.Probed.{eventBy};
 
-// 64 plain transactions and one object.
-fn plain_tables() -> Tables
-    ensures { λ r. ⌜ r ≡ plainTables ⌝ }
-{
-    let mut tables = Tables::empty();
-    tables.plain = Book::TRANSACTIONS;
-    tables.objects = 1;
-    tables
-}
-
-// An active write of t on the one object.
-fn write_of(t: u16) -> Operation
-    ensures { λ r. ⌜ r ≡ writeOf t ⌝ }
-{
-    Operation {
-        object: 0,
-        mark: Mark::Write,
-        responsible: t,
-        fate: Fate::Active,
-        ended: 0,
-    }
-}
-
-// All transactions are active; of the 256 operations, all writes of transaction 0, one is transaction 1's.
-fn busy_state(place: usize) -> State
-    ensures { λ r. ⌜ r ≡ busyState place ⌝ }
-{
-    let active = Transaction {
-        phase: Phase::Active,
-    };
-    let transactions = [active; Book::TRANSACTIONS];
-    let zero = write_of(0);
-    let one = write_of(1);
-    let mut all = [zero; Operation::MOST];
-    if place < Operation::MOST {
-        all[place] = one;
-    }
-    let ops = Ops {
-        all,
-        count: Operation::MOST,
-    };
-    State { transactions, ops }
-}
-
-// The event of a code as a book has it; a delegation goes to transaction 1.
-fn event_by(code: u64, t: usize, q: usize) -> Event
-    ensures { λ r. ⌜ r ≡ eventBy code t q ⌝ }
+// The event of a code as a book has it, with its fields; an operation is a write.
+fn event_by(code: u64, a: usize, b: usize, c: usize) -> Event
+    ensures { λ r. ⌜ r ≡ eventBy code a b c ⌝ }
 {
     match code {
-        1 => Event::Begin(t),
-        2 => Event::Commit(t),
-        3 => Event::Abort(t),
-        4 => Event::Operation(t, 0, Mark::Write),
-        5 => Event::Delegate(t, 1, q),
-        6 => Event::CommitOne(t, q),
-        _ => Event::AbortOne(t, q),
+        1 => Event::Begin(a),
+        2 => Event::Commit(a),
+        3 => Event::Abort(a),
+        4 => Event::Operation(a, b, Mark::Write),
+        5 => Event::Delegate(a, b, c),
+        6 => Event::CommitOne(a, b),
+        _ => Event::AbortOne(a, b),
     }
 }
 
-// Judges one event in the state whose operation `place` is transaction 1's: the verdict's number, and a hundred times the transaction that is
-// responsible for operation q after it.
+// Takes one event: the verdict's number, and the lent numbers changed if it is accepted.
 #[no_mangle]
-pub extern "C" fn probe_event(place: u64, code: u64, t: u64, q: u64) -> u64
-    ensures { λ r. ⌜ r ≡ probed place code t q ⌝ }
+pub extern "C" fn probe_take(
+    sheet: &[u32; Sheet::NUMBERS],
+    transactions: &mut [u32; Book::TRANSACTIONS],
+    ops: &mut [u32; Operation::MOST],
+    n: u64,
+    code: u64,
+    a: u64,
+    b: u64,
+    c: u64,
+) -> u64
+    ensures { λ r. ⌜ ((tables : Tables) → Holds tables (now (sheet .entry)) → r ≡ verdictNumber (judged tables (stateIn (now (transactions .entry)) (now (ops .entry)) n) (eventBy code a b c) .verdict)) ⌝ }
 {
-    let tables = plain_tables();
-    let state = busy_state(place as usize);
-    let event = event_by(code, t as usize, q as usize);
-    let judged = judge::judge(tables, state, event);
-    let verdict = judged.verdict;
-    let after = judged.state;
-    let ops = after.ops;
-    let number = verdict.number() as u64;
-    if Operation::MOST as u64 <= q {
-        return number;
-    }
-    let op = ops.all[q as usize];
-    let responsible = op.responsible as u64;
-    number + 100 * responsible
+    let event = event_by(code, a as usize, b as usize, c as usize);
+    let taken = judge::take(sheet, transactions, ops, n as usize, event);
+    let verdict = taken.verdict;
+    verdict.number() as u64
 }

@@ -8,9 +8,9 @@ use Rattle.terms.specs.Limits.{mostTransactions}
 use Rattle.sets.specs.Sets.{setOf}
 use Rattle.ties.specs.Ties.{before}
 use Rattle.ties.specs.declared.Ops.{Ops}
-use Rattle.judge.specs.States.{isActive, phaseOf}
-use Rattle.judge.specs.declared.State.{State}
-use Rattle.judge.specs.declared.Transaction.{Transaction}
+use Rattle.rules.specs.States.{isActive, phaseOf}
+use Rattle.rules.specs.declared.State.{State}
+use Rattle.rules.specs.declared.Transaction.{Transaction}
 use Rattle.report.specs.declared.Report.{Report}
 
 -- t is active

@@ -1,6 +1,6 @@
 // How a state stands as a whole: who is active, and who stands before whom.
-use judge::State;
-use judge::Transaction;
+use rules::State;
+use rules::Transaction;
 use terms::Book;
 use ties::Ops;
 ghost use mathlib.Core.Path.{_≡_};

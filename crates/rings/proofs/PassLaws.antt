@@ -56,12 +56,12 @@ pub record Tie (op : ℕ → Operation) (p q : ℕ) : Type 0 where
   pub same : op p .object ≡ op q .object
   pub write : (isWrite (op p .mark) || isWrite (op q .mark)) ≡ true
 
-tie-of : (op : ℕ → Operation) (p q : ℕ) → p < q → Counted (op p) (op q) → Tie op p q
+pub tie-of : (op : ℕ → Operation) (p q : ℕ) → p < q → Counted (op p) (op q) → Tie op p q
 tie-of op p q l w =
     let c = on-and (eqb (op p .object) (op q .object)) (isWrite (op p .mark) || isWrite (op q .mark)) (w .conflicts) in
     record { earlier = l; here = w .here; there = w .there; same = eqb-true (op p .object) (op q .object) (c .0); write = c .1 }
 
-tied : (n : ℕ) (op : ℕ → Operation) (p q : ℕ) → Tie op p q → q < n → op p .responsible ≢ op q .responsible
+pub tied : (n : ℕ) (op : ℕ → Operation) (p q : ℕ) → Tie op p q → q < n → op p .responsible ≢ op q .responsible
     → tiesOf n op (op p .responsible) (op q .responsible) ≡ true
 tied n op p q t l o =
     ties-on n op (op p .responsible) (op q .responsible)

@@ -1,33 +1,19 @@
 -- Passes one after the other: what is led to from a transaction, or from a set of them.
-use Prim.Native.Nat.{ℕ, _+_, _^_, _<_}
-use native.Mathlib.Numerals.{add-one}
+use Prim.Native.Nat.{ℕ, _^_, _<_}
 use native.Mathlib.Omega.{arith}
-use mathlib.Core.Path.{_≡_, refl, sym, ap, ap₂, _∙_, subst, subst⁻¹}
-use mathlib.Core.Bool.{Bool, true, false, not, _&&_, _||_}
-use mathlib.Core.Logic.{_≢_, _⊎_, inl, inr, ⊎-elim}
-use lib.Dec.{eqb, ltb}
-use borrow.Author.Tests.{eqb-true, eq-eqb, ne-eqb, lt-ltb}
-use Rattle.laws.specs.Index.{anyBelow}
-use Rattle.laws.proofs.Bools.{or-left, or-right, or-cases, and-on, on-and, on-not, is-not, together, clash, bool-cases}
-use Rattle.laws.proofs.Decisions.{lt-or}
-use Rattle.laws.proofs.IndexLaws.{any-intro, any-elim, any-same}
+use mathlib.Core.Path.{_≡_, sym, ap, _∙_}
+use mathlib.Core.Bool.{Bool, true, false, not, _&&_}
+use mathlib.Core.Logic.{_≢_}
+use lib.Dec.{ltb}
+use borrow.Author.Tests.{lt-ltb}
+use Rattle.laws.proofs.Bools.{and-on, on-and, on-not, together, clash, bool-cases}
 use Rattle.terms.specs.Limits.{mostTransactions}
 use Rattle.sets.specs.Sets.{mem}
 use Rattle.sets.specs.Reach.{Leads, leadsTo}
-use Rattle.sets.proofs.SetLaws.{mem-empty, mem-past, same-set}
+use Rattle.sets.proofs.SetLaws.{mem-empty, same-set}
 use Rattle.sets.proofs.ReachLaws.{join, leads-more, among-on, computed-leads, leads-computed}
-use Rattle.ties.specs.Operations.{opAt, size}
-use Rattle.ties.specs.Ties.{tiesOf, before, opWith, ringWith}
-use Rattle.ties.specs.declared.Operation.{Operation}
-use Rattle.ties.specs.declared.Ops.{Ops}
-use Rattle.ties.proofs.TieLaws.{ties-same}
-use Rattle.rings.specs.Passes.{passed, passTo, Led, Spread}
-use Rattle.rings.specs.declared.Pass.{Pass}
+use Rattle.rings.specs.Passes.{Led, Spread}
 use Rattle.rings.proofs.PassLaws.{Passed}
-
--- one of the set is the target or leads to it
-unfoldable pub reachesBy : (ℕ → ℕ → Bool) → ℕ → ℕ → Bool
-reachesBy R from target = anyBelow mostTransactions (λ a. mem from a && (eqb a target || leadsTo mostTransactions R a target))
 
 -- ---- rounds
 
@@ -104,115 +90,3 @@ module _ (R : ℕ → ℕ → Bool) (small : (a b : ℕ) → R a b ≡ true → 
       together (mem r t) (leadsTo mostTransactions R t t)
       (λ h. of-leads t t (led-leads t (s .only t h)))
       (λ h. bool-cases (mem r t) (λ e. e) (λ off. s .all off t (leads-led t 0 (leads-of t t h))))
-
-  pub spread-all : (v r : ℕ) → r < 2 ^ 64 → Spread R v 0 64 r → (k : ℕ) → mem r k ≡ leadsTo mostTransactions R v k
-  spread-all v r b s k =
-      together (mem r k) (leadsTo mostTransactions R v k)
-      (λ h. of-leads v k (led-leads v (s .only k h)))
-      (λ h. s .all (mem-past r 64 b (omega arith)) k (leads-led v 0 (leads-of v k h)))
-
-  -- from a set, and no transaction beside it; one of the set is the target or leads to it
-  module _ (from : ℕ) (b : from < 2 ^ 64) (target : ℕ) where
-    abbrev meets : ℕ → Bool
-    meets a = mem from a && (eqb a target || leadsTo mostTransactions R a target)
-
-    member-small : (a : ℕ) → mem from a ≡ true → a < mostTransactions
-    member-small a h = lt-or a mostTransactions (λ l. l) (λ l. clash h (mem-past from a b l))
-
-    led-hits : {k : ℕ} → Led R 64 from k → (a : ℕ) × (mem from a ≡ true) × ((a ≡ k) ⊎ Leads R a k)
-    led-hits {k} (Led.held h) = (k, h, inl refl)
-    led-hits {k} (Led.begun r) = absurd (omega (arith, small 64 k r .0))
-    led-hits {k} (Led.onward {a = c} w r) =
-        let x = led-hits w in
-        (x .0, x .1, ⊎-elim (λ e. inr (Leads.last (subst⁻¹ (λ (d : ℕ). R d k ≡ true) e r))) (λ l. inr (join l (Leads.last r))) (x .2))
-
-    pub spread-reaches : (r : ℕ) → Spread R 64 from target r → mem r target ≡ reachesBy R from target
-    unfolding reachesBy
-    spread-reaches r s =
-        together (mem r target) (anyBelow mostTransactions meets)
-        (λ h.
-        let x = led-hits (s .only target h) in
-        let a = x .0 in
-        any-intro mostTransactions meets a (member-small a (x .1))
-        (and-on (mem from a) (eqb a target || leadsTo mostTransactions R a target) (x .1)
-        (⊎-elim
-        (λ e. or-left (eqb a target) (leadsTo mostTransactions R a target) (eq-eqb a target e))
-        (λ l. or-right (eqb a target) (leadsTo mostTransactions R a target) (of-leads a target l)) (x .2))))
-        (λ h.
-        let x = any-elim mostTransactions meets h in
-        let a = x .0 in
-        let y = on-and (mem from a) (eqb a target || leadsTo mostTransactions R a target) (x .2) in
-        bool-cases (mem r target) (λ e. e)
-        (λ off. s .all off target
-        (⊎-elim
-        (λ e. Led.held (ap (mem from) (sym (eqb-true a target e)) ∙ y .0))
-        (λ l. led-on 64 from (Led.held (y .0)) (leads-of a target l))
-        (or-cases (eqb a target) (leadsTo mostTransactions R a target) (y .1)))))
-
-  -- those of some that v leads to, and whether they lead back
-  module _ (some v after both : ℕ) (all : (k : ℕ) → mem after k ≡ leadsTo mostTransactions R v k) (shared : (k : ℕ) → mem both k ≡ (mem after k && mem some k)) where
-    abbrev rings : ℕ → Bool
-    rings u = mem some u && (leadsTo mostTransactions R v u && leadsTo mostTransactions R u v)
-
-    pub ring-with : reachesBy R both v ≡ ringWith R (mem some) v
-    unfolding reachesBy ringWith
-    ring-with =
-        any-same mostTransactions (λ a. mem both a && (eqb a v || leadsTo mostTransactions R a v)) rings
-        (λ a l. together (mem both a && (eqb a v || leadsTo mostTransactions R a v)) (rings a)
-        (λ h.
-        let x = on-and (mem both a) (eqb a v || leadsTo mostTransactions R a v) h in
-        let y = on-and (mem after a) (mem some a) (sym (shared a) ∙ x .0) in
-        let to : leadsTo mostTransactions R v a ≡ true = sym (all a) ∙ y .0 in
-        and-on (mem some a) (leadsTo mostTransactions R v a && leadsTo mostTransactions R a v) (y .1)
-        (and-on (leadsTo mostTransactions R v a) (leadsTo mostTransactions R a v) to
-        (⊎-elim
-        (λ e. let s = eqb-true a v e in subst⁻¹ (λ (c : ℕ). leadsTo mostTransactions R c v ≡ true) s (subst (λ (c : ℕ). leadsTo mostTransactions R v c ≡ true) s to))
-        (λ e. e) (or-cases (eqb a v) (leadsTo mostTransactions R a v) (x .1)))))
-        (λ h.
-        let x = on-and (mem some a) (leadsTo mostTransactions R v a && leadsTo mostTransactions R a v) h in
-        let y = on-and (leadsTo mostTransactions R v a) (leadsTo mostTransactions R a v) (x .1) in
-        and-on (mem both a) (eqb a v || leadsTo mostTransactions R a v)
-        (shared a ∙ and-on (mem after a) (mem some a) (all a ∙ y .0) (x .0))
-        (or-right (eqb a v) (leadsTo mostTransactions R a v) (y .1))))
-
-    pub ring-none : both ≡ 0 → ringWith R (mem some) v ≡ false
-    unfolding reachesBy
-    ring-none e =
-        sym ring-with ∙ is-not (reachesBy R both v)
-        (λ h.
-        let x = any-elim mostTransactions (λ a. mem both a && (eqb a v || leadsTo mostTransactions R a v)) h in
-        let y = on-and (mem both (x .0)) (eqb (x .0) v || leadsTo mostTransactions R (x .0) v) (x .2) in
-        clash (y .0) (ap (λ (n : ℕ). mem n (x .0)) e ∙ mem-empty (x .0)))
-
--- what is in a set but not in what of it is not among some
-pub shared-by : (after some rest both : ℕ) → ((k : ℕ) → mem rest k ≡ (mem after k && not (mem some k))) → ((k : ℕ) → mem both k ≡ (mem after k && not (mem rest k)))
-    → (k : ℕ) → mem both k ≡ (mem after k && mem some k)
-shared-by after some rest both r b k = b k ∙ ap (λ (x : Bool). mem after k && not x) (r k) ∙ twice (mem after k) (mem some k)
-  where
-    twice : (x y : Bool) → (x && not (x && not y)) ≡ (x && y)
-    twice true true = refl
-    twice true false = refl
-    twice false y = refl
-
--- ---- the operations with one behind the last, or not
-
--- what is read behind the last is not among them
-pub ties-plain : (ops : Ops) (x : Operation) → tiesOf (size ops) (opWith ops (size ops) x) ≡ before ops
-ties-plain ops x =
-    ties-same (size ops) (opWith ops (size ops) x) (opAt ops) (λ i l. rw (ne-eqb i (size ops) (λ e. omega arith)))
-
--- a pass, one operation further
-module _ (ops : Ops) (x : Operation) (start from : ℕ) where
-  pub pass-more : (i : ℕ) (p : Pass) → i < size ops → p ≡ passTo i (opWith ops (size ops) x) start from
-      → passed start (opAt ops i) p ≡ passTo (i + 1) (opWith ops (size ops) x) start from
-  unfolding passTo
-  pass-more i p l e =
-      let here : opWith ops (size ops) x i ≡ opAt ops i = rw (ne-eqb i (size ops) (λ g. omega arith)) in
-      rw (add-one i) (ap₂ (passed start) (sym here) e)
-
-  pub pass-last : (n : ℕ) (p : Pass) → n ≡ size ops → p ≡ passTo n (opWith ops (size ops) x) start from
-      → passed start x p ≡ passTo (size ops + 1) (opWith ops (size ops) x) start from
-  unfolding passTo
-  pass-last n p g e =
-      let here : opWith ops (size ops) x (size ops) ≡ x = rw (eq-eqb (size ops) (size ops) refl) in
-      rw (add-one (size ops)) (ap₂ (passed start) (sym here) (e ∙ ap (λ (k : ℕ). passTo k (opWith ops (size ops) x) start from) g))

@@ -1,13 +1,14 @@
-// Who is on a ring, and whether an event would put an undo on one: passes over the operations, with sets of objects and of transactions alone.
+// Who is on a ring, for the commit of a transaction: passes over the operations, with sets of objects and of transactions alone.
 use terms::Mark;
 use ties::Operation;
-use ties::Ops;
 ghost use mathlib.Core.Path.{_≡_};
 ghost use mathlib.Core.Bool.{cond};
-ghost use Rattle.sets.specs.Sets.{mem, inserted};
-ghost use Rattle.ties.specs.Operations.{size};
-ghost use Rattle.ties.specs.Ties.{opWith, tiesOf, before, beforeMade, beforeGiven, onRing, ringWith};
-ghost use Rattle.rings.specs.Passes.{crosses, firstPass, passed, passTo, upTo, Spread};
+ghost use Prim.Native.Nat.{_≤_};
+ghost use Rattle.sets.specs.Sets.{inserted};
+ghost use Rattle.ties.specs.Operations.{mostOperations};
+ghost use Rattle.ties.specs.Ties.{tiesOf, onRing};
+ghost use Rattle.cells.specs.Cells.{opsIn};
+ghost use Rattle.rings.specs.Passes.{crosses, firstPass, begunBy, joinedBy, leftBy, passed, passTo, readAt, precededBy, Spread};
 
 // One pass over the operations, from the first up: the objects that the start has used and written so far, those that whoever is reached
 // has, who is reached, and who had an operation passed before being reached.
@@ -55,6 +56,54 @@ impl Pass {
         }
     }
 
+    // With q behind it, which is the start's own.
+    fn begun(self, q: Operation) -> Pass
+        ensures { λ r. ⌜ r ≡ begunBy q self ⌝ }
+    {
+        let mark = q.mark;
+        let o = q.object as usize;
+        Pass {
+            mine: sets::with_member(self.mine, o),
+            put: with_some(mark.is_write(), self.put, o),
+            used: self.used,
+            written: self.written,
+            reached: self.reached,
+            missed: self.missed,
+        }
+    }
+
+    // With q behind it, whose transaction is reached.
+    fn joined(self, q: Operation) -> Pass
+        ensures { λ r. ⌜ r ≡ joinedBy q self ⌝ }
+    {
+        let mark = q.mark;
+        let o = q.object as usize;
+        let b = q.responsible as usize;
+        Pass {
+            mine: self.mine,
+            put: self.put,
+            used: sets::with_member(self.used, o),
+            written: with_some(mark.is_write(), self.written, o),
+            reached: sets::with_member(self.reached, b),
+            missed: self.missed,
+        }
+    }
+
+    // With q behind it, whose transaction is not reached.
+    fn left(self, q: Operation) -> Pass
+        ensures { λ r. ⌜ r ≡ leftBy q self ⌝ }
+    {
+        let b = q.responsible as usize;
+        Pass {
+            mine: self.mine,
+            put: self.put,
+            used: self.used,
+            written: self.written,
+            reached: self.reached,
+            missed: sets::with_member(self.missed, b),
+        }
+    }
+
     // After one operation more: its transaction is reached if it comes after one of those reached, or after one of the start's.
     fn passed(self, q: Operation, start: usize) -> Pass
         ensures { λ r. ⌜ r ≡ passed start q self ⌝ }
@@ -65,52 +114,52 @@ impl Pass {
         let mark = q.mark;
         let o = q.object as usize;
         let b = q.responsible as usize;
-        let writes = mark.is_write();
-        let own = b == start;
-        let behind = crossed(mark, self.used, self.written, o);
         let known = sets::member(self.reached, b);
-        let begun = crossed(mark, self.mine, self.put, o);
-        let hit = behind | (known | (begun & !own));
-        Pass {
-            mine: with_some(own, self.mine, o),
-            put: with_some(own & writes, self.put, o),
-            used: with_some(hit, self.used, o),
-            written: with_some(hit & writes, self.written, o),
-            reached: with_some(hit, self.reached, b),
-            missed: with_some(!hit, self.missed, b),
+        let behind = crossed(mark, self.used, self.written, o);
+        if b == start {
+            let own = self.begun(q);
+            if behind | known {
+                return own.joined(q);
+            }
+            return own.left(q);
         }
+        if known {
+            return self.joined(q);
+        }
+        if behind | crossed(mark, self.mine, self.put, o) {
+            return self.joined(q);
+        }
+        self.left(q)
     }
 }
 
-// One pass over all operations, and over x behind the last if there is one more.
-fn one_pass(ops: Ops, more: bool, x: Operation, start: usize, from: u64) -> Pass
-    ensures { λ r. ⌜ r ≡ passTo (upTo more ops) (opWith ops (size ops) x) start from ⌝ }
+// One pass over so many operations, with these reached.
+fn one_pass(ops: &[u32; Operation::MOST], total: usize, start: usize, from: u64) -> Pass
+    requires { ⌜ total ≤ mostOperations ⌝ }
+    ensures { λ r. ⌜ r ≡ passTo total (readAt (now (ops .entry))) start from ⌝ }
 {
-    let n = ops.size();
     let mut p = Pass::first(from);
     let mut i: usize = 0;
-    while i < n {
-        let q = ops.all[i];
+    while i < total {
+        let q = cells::op_in(ops[i]);
         let next = p.passed(q, start);
         p = next;
         i += 1;
     }
-    if more {
-        return p.passed(x, start);
-    }
     p
 }
 
-// All that is led to from the start and from the set; it stops where the target is met.
-fn spread(ops: Ops, more: bool, x: Operation, start: usize, from: u64, target: usize) -> u64
-    ensures { λ r. ⌜ Spread (tiesOf (upTo more ops) (opWith ops (size ops) x)) start from target r ⌝ }
+// All that the start leads to; it stops where it leads back to itself.
+fn spread(ops: &[u32; Operation::MOST], total: usize, start: usize) -> u64
+    requires { ⌜ total ≤ mostOperations ⌝ }
+    ensures { λ r. ⌜ Spread (tiesOf total (readAt (now (ops .entry)))) start 0 start r ⌝ }
 {
-    let mut reached = from;
+    let mut reached: u64 = 0;
     loop {
-        let p = one_pass(ops, more, x, start, reached);
+        let p = one_pass(ops, total, start, reached);
         let next = p.reached;
         let missed = p.missed;
-        if sets::member(next, target) {
+        if sets::member(next, start) {
             return next;
         }
         let whole = sets::without(next, missed);
@@ -121,43 +170,42 @@ fn spread(ops: Ops, more: bool, x: Operation, start: usize, from: u64, target: u
     }
 }
 
-// Whether t is on a ring.
-pub fn on_ring(ops: Ops, t: usize) -> bool
-    ensures { λ r. ⌜ r ≡ onRing ops t ⌝ }
+// Whether another stands before t by so many operations: t comes to an object after another used it, one of the two writing.
+fn preceded(ops: &[u32; Operation::MOST], total: usize, t: usize) -> bool
+    requires { ⌜ total ≤ mostOperations ⌝ }
+    ensures { λ r. ⌜ r ≡ precededBy (tiesOf total (readAt (now (ops .entry)))) t ⌝ }
 {
-    let none = Operation::none();
-    let r = spread(ops, false, none, t, 0, t);
-    sets::member(r, t)
+    let mut used: u64 = 0;
+    let mut written: u64 = 0;
+    let mut i: usize = 0;
+    while i < total {
+        let q = cells::op_in(ops[i]);
+        let mark = q.mark;
+        let o = q.object as usize;
+        let b = q.responsible as usize;
+        i += 1;
+        if !q.is_gone() {
+            if b == t {
+                if crossed(mark, used, written, o) {
+                    return true;
+                }
+            } else {
+                used = sets::with_member(used, o);
+                written = with_some(mark.is_write(), written, o);
+            }
+        }
+    }
+    false
 }
 
-// Whether one of some and v lead to each other, with x behind the last operation if there is one more.
-fn ring_with(ops: Ops, more: bool, x: Operation, some: u64, v: usize) -> bool
-    ensures { λ r. ⌜ r ≡ ringWith (tiesOf (upTo more ops) (opWith ops (size ops) x)) (mem some) v ⌝ }
+// Whether t is on a ring. Where nothing stands before it, there is nothing to search.
+pub fn on_ring(ops: &[u32; Operation::MOST], n: usize, t: usize) -> bool
+    ensures { λ r. ⌜ r ≡ onRing (opsIn (now (ops .entry)) n) t ⌝ }
 {
-    let after = spread(ops, more, x, v, 0, 64);
-    let rest = sets::without(after, some);
-    let both = sets::without(after, rest);
-    if both == 0 {
+    let all = cells::size(n);
+    if !preceded(ops, all, t) {
         return false;
     }
-    let r = spread(ops, more, x, 64, both, v);
-    sets::member(r, v)
-}
-
-// Whether one of some would be on a ring with whoever invokes x, had it been invoked.
-pub fn ring_made(ops: Ops, x: Operation, some: u64) -> bool
-    ensures { λ r. ⌜ r ≡ ringWith (beforeMade ops x) (mem some) (x .responsible) ⌝ }
-{
-    let v = x.responsible as usize;
-    ring_with(ops, true, x, some, v)
-}
-
-// Whether one of some would be on a ring with the receiver, had it been given operation q.
-pub fn ring_given(ops: Ops, q: usize, receiver: u16, some: u64) -> bool
-    ensures { λ r. ⌜ r ≡ ringWith (beforeGiven ops q receiver) (mem some) receiver ⌝ }
-{
-    let after = ops.given(q, receiver);
-    let none = Operation::none();
-    let v = receiver as usize;
-    ring_with(after, false, none, some, v)
+    let r = spread(ops, all, t);
+    sets::member(r, t)
 }

@@ -107,7 +107,7 @@ impl Kind {
     }
 
     // The kind that a number from 1 to 7 stands for.
-    fn of(k: usize) -> Kind
+    pub fn of(k: usize) -> Kind
         ensures { λ r. ⌜ r ≡ kindOf k ⌝ }
     {
         match k {

@@ -3,7 +3,6 @@ use Prim.Native.Nat.{ℕ}
 use mathlib.Core.Path.{_≡_, refl, ap}
 use mathlib.Core.Bool.{Bool, not, _&&_, _||_, and-false}
 use lib.Dec.{eqb, ltb}
-use Rattle.laws.specs.Index.{anyBelow}
 use Rattle.laws.proofs.IndexLaws.{any-same}
 use Rattle.terms.specs.Events.{isWrite}
 use Rattle.ties.specs.declared.Fate.{Fate}

@@ -2,9 +2,8 @@
 use Prim.Native.Nat.{ℕ, zero, suc, _+_, _≤_, _<_}
 use native.Mathlib.Numerals.{add-one}
 use native.Mathlib.Omega.{arith}
-use mathlib.Core.Path.{_≡_, refl, sym, ap, ap₂, _∙_}
+use mathlib.Core.Path.{_≡_, refl, sym, ap, _∙_}
 use mathlib.Core.Bool.{Bool, false, cond, and-true, and-false}
-use mathlib.Core.Logic.{_≢_}
 use mathlib.Core.List.{List}
 use lib.Dec.{ltb, eqb}
 use lib.ListN.{length, getD, set, length-set, List·getD-eq-default}
@@ -12,10 +11,9 @@ use lib.Seq.{set-out, ext-getD, getD-set-same, getD-set-other}
 use borrow.Author.Tests.{lt-ltb, le-ltb, eq-eqb, ne-eqb}
 use Rattle.laws.proofs.Bools.{bool-cases}
 use Rattle.laws.proofs.Decisions.{same-or, lt-or}
-use Rattle.ties.specs.declared.Fate.{Fate}
 use Rattle.ties.specs.declared.Operation.{Operation}
 use Rattle.ties.specs.declared.Ops.{Ops}
-use Rattle.ties.specs.Operations.{mostOperations, isActive, noOperation, opAt, size, made, endedAs, endedAlone, endedBy, changed, rewrites, rewritten, onlyActive, allHeldBy, endedOps}
+use Rattle.ties.specs.Operations.{mostOperations, isActive, noOperation, opAt, size, made, changed, rewrites, rewritten, onlyActive}
 
 -- what stands at p after a store at q
 stored-at : (l : List Operation) (q : ℕ) (op : Operation) → q < length l → (p : ℕ) → getD (set l q op) p noOperation ≡ cond (eqb p q) op (getD l p noOperation)
@@ -68,7 +66,12 @@ stored i ops op = record { all = set (ops .all) i op; count = ops .count }
 
 -- ---- operations rewritten
 
-changed-more : (n : ℕ) (f : ℕ → Operation → Operation) (l : List Operation) → set (changed n f l) n (f n (getD l n noOperation)) ≡ changed (n + 1) f l
+-- the first n are done: none, one more, all
+pub changed-none : (f : ℕ → Operation → Operation) (l : List Operation) → l ≡ changed 0 f l
+unfolding changed
+changed-none f l = refl
+
+pub changed-more : (n : ℕ) (f : ℕ → Operation → Operation) (l : List Operation) → set (changed n f l) n (f n (getD l n noOperation)) ≡ changed (n + 1) f l
 unfolding changed
 changed-more n f l = rw add-one refl
 
@@ -88,6 +91,19 @@ changed-at (suc n) f z l p =
     (lt-or p n
     (λ h. rw (lt-ltb p n h, lt-ltb p (suc n) (omega arith)))
     (λ h. rw (le-ltb p n h, le-ltb p (suc n) (omega arith))))))
+
+-- those that are not done yet are as they were
+pub changed-above : (n : ℕ) (f : ℕ → Operation → Operation) (l : List Operation) (k : ℕ) → n ≤ k → getD (changed n f l) k noOperation ≡ getD l k noOperation
+unfolding changed
+changed-above zero f l k h = refl
+changed-above (suc n) f l k h =
+    getD-set-other (changed n f l) n k (f n (getD l n noOperation)) noOperation (λ e. absurd (omega arith))
+    ∙ changed-above n f l k (omega arith)
+
+pub changed-all : (which : ℕ → Operation → Bool) (how : Operation → Operation) (ops : Ops) (i : ℕ) (l : List Operation)
+    → l ≡ changed i (rewrites which how) (ops .all) → i ≡ size ops → record { all = l; count = ops .count } ≡ rewritten which how ops
+unfolding rewritten
+changed-all which how ops i l e h = λ k. record { all = (e ∙ ap (λ (n : ℕ). changed n (rewrites which how) (ops .all)) h) k; count = ops .count }
 
 length-changed : (n : ℕ) (f : ℕ → Operation → Operation) (l : List Operation) → length (changed n f l) ≡ length l
 unfolding changed
@@ -116,19 +132,22 @@ module _ (which : ℕ → Operation → Bool) (how : Operation → Operation) (q
 
 -- one operation: the store of it, and none where there is no such
 module _ (q : ℕ) (how : Operation → Operation) (ops : Ops) where
-  pub one-stored : length (ops .all) ≡ mostOperations → q < size ops
+  pub one-stored : q < size ops
       → stored q ops (cond (isActive (opAt ops q .fate)) (how (opAt ops q)) (opAt ops q)) ≡ rewritten (onlyActive q) how ops
-  one-stored e l =
+  one-stored l =
       is-rewritten (onlyActive q) how (λ p. refl) ops (set (ops .all) q after) (length-set (ops .all) q after)
-      (λ p. stored-at (ops .all) q after (omega arith) p ∙ sym (rewritten-at (onlyActive q) how (λ k. refl) ops p ∙ there p))
+      (λ p. stored-over alone refl (ops .all) q p ∙ sym (rewritten-at (onlyActive q) how (λ k. refl) ops p ∙ there p))
     where
-      after : Operation
-      after = cond (isActive (opAt ops q .fate)) (how (opAt ops q)) (opAt ops q)
+      alone : Operation → Operation
+      alone op = cond (isActive (op .fate)) (how op) op
 
-      there : (p : ℕ) → cond (ltb p (size ops)) (rewrites (onlyActive q) how p (opAt ops p)) (opAt ops p) ≡ cond (eqb p q) after (opAt ops p)
+      after : Operation
+      after = alone (opAt ops q)
+
+      there : (p : ℕ) → cond (ltb p (size ops)) (rewrites (onlyActive q) how p (opAt ops p)) (opAt ops p) ≡ cond (eqb p q) (alone (opAt ops p)) (opAt ops p)
       there p =
           same-or p q
-          (λ g. rw (eq-eqb p q g, lt-ltb p (size ops) (omega arith), and-true (isActive (opAt ops p .fate))) (ap (λ (k : ℕ). cond (isActive (opAt ops k .fate)) (how (opAt ops k)) (opAt ops k)) g))
+          (λ g. rw (eq-eqb p q g, lt-ltb p (size ops) (omega arith), and-true (isActive (opAt ops p .fate))))
           (λ g. rw (ne-eqb p q g, and-false (isActive (opAt ops p .fate))) (bool-cases (ltb p (size ops)) (λ b. rw b) (λ b. rw b)))
 
   pub one-past : size ops ≤ q → ops ≡ rewritten (onlyActive q) how ops
@@ -141,32 +160,3 @@ module _ (q : ℕ) (how : Operation → Operation) (ops : Ops) where
           lt-or p (size ops)
           (λ b. rw (lt-ltb p (size ops) b, ne-eqb p q (λ g. omega arith), and-false (isActive (opAt ops p .fate))))
           (λ b. rw (le-ltb p (size ops) b))
-
--- ---- ending
-
--- t's own ends as it would alone, another's stays
-module _ (t : ℕ) (fate : Fate) (accepted : ℕ) (op : Operation) where
-  pub ended-mine : op .responsible ≡ t → endedAlone fate accepted op ≡ endedBy t fate accepted op
-  ended-mine e = rw (eq-eqb (op .responsible) t e, and-true (isActive (op .fate)))
-
-  pub ended-other : op .responsible ≢ t → op ≡ endedBy t fate accepted op
-  ended-other e = rw (ne-eqb (op .responsible) t e, and-false (isActive (op .fate)))
-
--- ---- the loop that ends them: the first i are done
-
-module _ (t : ℕ) (fate : Fate) (ops : Ops) (accepted : ℕ) where
-  abbrev pub endedSoFar : ℕ → Ops
-  endedSoFar i = record { all = changed i (rewrites (allHeldBy t) (endedAs fate accepted)) (ops .all); count = ops .count }
-
-  pub ended-none : ops ≡ endedSoFar 0
-  unfolding changed
-  ended-none = refl
-
-  pub ended-more : (i : ℕ) (next : Ops) (after : Operation) → next ≡ endedSoFar i → after ≡ endedBy t fate accepted (opAt ops i)
-      → stored i next after ≡ endedSoFar (i + 1)
-  ended-more i next after e r =
-      ap₂ (stored i) e r ∙ ap (λ (l : List Operation). record { all = l; count = ops .count }) (changed-more i (rewrites (allHeldBy t) (endedAs fate accepted)) (ops .all))
-
-  pub ended-all : (i : ℕ) (next : Ops) → next ≡ endedSoFar i → accepted ≡ size ops → i ≡ size ops → next ≡ endedOps t fate ops
-  unfolding rewritten
-  ended-all i next e p q = rw (e, p, q)

@@ -1,25 +1,25 @@
 -- How the order of transactions changes with the operations: a new one adds pairs that end at its invoker, one that is given adds pairs of its
 -- receiver, and an end adds none.
-use Prim.Native.Nat.{ℕ, _+_, _≤_, _<_}
+use Prim.Native.Nat.{ℕ, _+_, _<_}
 use native.Mathlib.Omega.{arith}
-use mathlib.Core.Path.{_≡_, refl, sym, ap, ap₂, _∙_, subst}
+use mathlib.Core.Path.{_≡_, refl, sym, ap, _∙_}
 use mathlib.Core.Bool.{Bool, true, false, cond, _||_}
-use mathlib.Core.Logic.{_≢_, _⊎_, inl, inr, ⊎-elim}
+use mathlib.Core.Logic.{inl, inr}
 use lib.Dec.{ltb, leb, eqb}
 use lib.ListN.{length}
 use borrow.Author.Tests.{eq-eqb, eqb-true, ne-eqb}
 use Rattle.laws.proofs.Bools.{bool-cases, clash, off-or, on-and, or-off}
-use Rattle.laws.proofs.Decisions.{lt-or, same-or}
+use Rattle.laws.proofs.Decisions.{lt-or}
 use Rattle.terms.specs.Limits.{mostTransactions, mostObjects}
 use Rattle.sets.proofs.ReachLaws.{AddsAt}
 use Rattle.ties.specs.declared.Fate.{Fate}
 use Rattle.ties.specs.declared.Fate.the-variants.{Aborted, Active, Committed}
 use Rattle.ties.specs.declared.Operation.{Operation}
 use Rattle.ties.specs.declared.Ops.{Ops}
-use Rattle.ties.specs.Operations.{endedAs, given, isAborted, isActive, isCommitted, made, mostOperations, noOperation, onlyActive, opAt, passedTo, rewritten, rewrites, size}
+use Rattle.ties.specs.Operations.{endedAs, given, isAborted, isActive, isCommitted, made, mostOperations, noOperation, onlyActive, opAt, passedTo, rewritten, size}
 use Rattle.ties.specs.Ties.{before, beforeGiven, beforeMade, isGone, opWith, tiesOf}
 use Rattle.ties.proofs.OpsLaws.{made-at, rewritten-at, size-made}
-use Rattle.ties.proofs.TieLaws.{Between, Counted, between, ties-on, ties-same}
+use Rattle.ties.proofs.TieLaws.{between, ties-on, ties-same}
 
 -- what is active is not aborted
 pub active-stands : (f : Fate) → isActive f ≡ true → isAborted f ≡ false

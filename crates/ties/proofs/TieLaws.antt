@@ -1,11 +1,9 @@
 -- Ties, those that count for the order of transactions and what they say of who stands before whom; dirty reads.
-use Prim.Native.Nat.{ℕ, _+_, _≤_, _<_}
+use Prim.Native.Nat.{ℕ, _<_}
 use native.Mathlib.Omega.{arith}
-use mathlib.Core.Path.{_≡_, sym, ap, ap₂, _∙_, fun-ext}
-use mathlib.Core.Bool.{true, false, _&&_, _||_, and-false}
+use mathlib.Core.Path.{_≡_, sym, ap₂, fun-ext}
+use mathlib.Core.Bool.{true, false, _&&_, _||_}
 use mathlib.Core.Logic.{_≢_}
-use native.Mathlib.Nat.{zero-add, add-zero}
-use lib.ListN.{length, List·getD-eq-default}
 use lib.Dec.{ltb, leb, eqb}
 use borrow.Author.Tests.{ltb-true, leb-false, eqb-true, eq-eqb, ne-eqb, lt-ltb}
 use Rattle.laws.specs.Index.{anyBelow}
@@ -15,8 +13,8 @@ use Rattle.terms.specs.Limits.{mostTransactions, mostObjects}
 use Rattle.sets.specs.Reach.{among}
 use Rattle.ties.specs.declared.Operation.{Operation}
 use Rattle.ties.specs.declared.Ops.{Ops}
-use Rattle.ties.specs.Operations.{isAborted, noOperation, opAt, size}
-use Rattle.ties.specs.Ties.{conflict, isGone, neitherGone, apart, tiedTo, tied, counts, edge, tiesOf, dirtyAt, dirty}
+use Rattle.ties.specs.Operations.{isAborted, opAt, size}
+use Rattle.ties.specs.Ties.{conflict, isGone, neitherGone, apart, tiedTo, tied, counts, edge, tiesOf, dirty}
 
 -- the parts of a tie
 pub record Tie (ops : Ops) (p q : ℕ) : Type 0 where
@@ -143,22 +141,3 @@ ties-same n f g h =
     (λ q l.
     any-same q (λ p. edge (f p) (f q) a b) (λ p. edge (g p) (g q) a b)
     (λ p m. ap₂ (λ (x y : Operation). edge x y a b) (h p (omega arith)) (h q l)))))
-
--- ---- dirty reads among a stretch of operations: all of them, one, and past the last
-
-module _ (ops : Ops) (t : ℕ) where
-  pub dirty-all : (n : ℕ) → n ≡ size ops → anyBelow n (λ k. dirtyAt ops t (0 + k)) ≡ dirty ops t
-  unfolding dirty
-  dirty-all n e =
-      any-same n (λ k. dirtyAt ops t (0 + k)) (dirtyAt ops t) (λ i l. ap (dirtyAt ops t) (zero-add i))
-      ∙ ap (λ (m : ℕ). anyBelow m (dirtyAt ops t)) e
-
-  pub dirty-single : (q : ℕ) → anyBelow 1 (λ k. dirtyAt ops t (q + k)) ≡ dirtyAt ops t q
-  unfolding anyBelow
-  dirty-single q = ap (dirtyAt ops t) (add-zero q)
-
-  pub dirty-past : (q : ℕ) → length (ops .all) ≤ q → false ≡ dirtyAt ops t q
-  unfolding dirtyAt
-  dirty-past q h =
-      let past : opAt ops q ≡ noOperation = List·getD-eq-default (ops .all) noOperation {n = q} h in
-      rw (past, and-false (eqb 0 t))

@@ -69,9 +69,6 @@ abbrev pub endedAs : Fate → ℕ → Operation → Operation
 endedAs fate accepted op =
     record { object = op .object; mark = op .mark; responsible = op .responsible; fate = fate; ended = accepted }
 
-abbrev pub endedBy : ℕ → Fate → ℕ → Operation → Operation
-endedBy t fate accepted op = cond (heldBy t op) (endedAs fate accepted op) op
-
 -- the operation, ended alone, if it is active
 abbrev pub endedAlone : Fate → ℕ → Operation → Operation
 endedAlone fate accepted op = cond (isActive (op .fate)) (endedAs fate accepted op) op

@@ -1,11 +1,9 @@
-// Accepted operations, how they end and change hands, the ties between them, and dirty reads.
+// Accepted operations, how one of them ends and changes hands, the ties between them, and which reads are dirty.
 use terms::Book;
 use terms::Mark;
 ghost use mathlib.Core.Path.{_≡_};
-ghost use Prim.Native.Nat.{_+_, _≤_, _<_};
-ghost use Rattle.laws.specs.Index.{anyBelow};
-ghost use Rattle.ties.specs.Operations.{isAborted, isActive, isCommitted, mostOperations, noOperation, noOps, size, made, givenTo, given, endedAlone, endedOne, endedBy, endedOps};
-ghost use Rattle.ties.specs.Ties.{conflict, tiedTo, isGone, counts, pairsOf, readBy, dirties, dirtyAt, dirty, waitsFor, mustWait};
+ghost use Rattle.ties.specs.Operations.{isAborted, isActive, isCommitted, mostOperations, noOperation, noOps, size, givenTo, heldBy, endedAs, endedAlone};
+ghost use Rattle.ties.specs.Ties.{conflict, tiedTo, isGone, counts, pairsOf, readBy, dirties, waitsFor};
 
 // How an operation stands. A blank place counts as aborted: nothing may end or change it.
 pub enum Fate {
@@ -47,7 +45,7 @@ impl Operation {
     }
 
     // With another responsible transaction, where it is active.
-    fn given_to(self, receiver: u16) -> Operation
+    pub fn given_to(self, receiver: u16) -> Operation
         ensures { λ r. ⌜ r ≡ givenTo receiver self ⌝ }
     {
         let mark = self.mark;
@@ -64,31 +62,36 @@ impl Operation {
         self
     }
 
-    // Ended in this fate, where it is active.
-    fn ended_alone(self, fate: Fate, accepted: u16) -> Operation
-        ensures { λ r. ⌜ r ≡ endedAlone fate accepted self ⌝ }
+    // Whether it is active and t is responsible for it.
+    pub fn held_by(self, t: usize) -> bool
+        ensures { λ r. ⌜ r ≡ heldBy t self ⌝ }
     {
-        let mark = self.mark;
-        let now = self.fate;
-        if now.is_active() {
-            return Operation {
-                object: self.object,
-                mark,
-                responsible: self.responsible,
-                fate,
-                ended: accepted,
-            };
-        }
-        self
+        let fate = self.fate;
+        let responsible = self.responsible as usize;
+        fate.is_active() & (responsible == t)
     }
 
-    // The same, where t is responsible for it.
-    fn ended_by(self, t: usize, fate: Fate, accepted: u16) -> Operation
-        ensures { λ r. ⌜ r ≡ endedBy t fate accepted self ⌝ }
+    // Ended in this fate when so many operations were accepted.
+    pub fn ended_as(self, fate: Fate, accepted: u16) -> Operation
+        ensures { λ r. ⌜ r ≡ endedAs fate accepted self ⌝ }
     {
-        let responsible = self.responsible as usize;
-        if responsible == t {
-            return self.ended_alone(fate, accepted);
+        let mark = self.mark;
+        Operation {
+            object: self.object,
+            mark,
+            responsible: self.responsible,
+            fate,
+            ended: accepted,
+        }
+    }
+
+    // The same, where it is active.
+    pub fn ended_alone(self, fate: Fate, accepted: u16) -> Operation
+        ensures { λ r. ⌜ r ≡ endedAlone fate accepted self ⌝ }
+    {
+        let now = self.fate;
+        if now.is_active() {
+            return self.ended_as(fate, accepted);
         }
         self
     }
@@ -135,7 +138,7 @@ impl Operation {
     }
 
     // Whether it is a read that t answers for.
-    fn read_by(self, t: usize) -> bool
+    pub fn read_by(self, t: usize) -> bool
         ensures { λ r. ⌜ r ≡ readBy t self ⌝ }
     {
         let mark = self.mark;
@@ -145,7 +148,7 @@ impl Operation {
     }
 
     // Whether it is a write tied before the read q, numbered j, and neither committed nor active and t's own.
-    fn dirties(self, t: usize, q: Operation, j: usize) -> bool
+    pub fn dirties(self, t: usize, q: Operation, j: usize) -> bool
         ensures { λ r. ⌜ r ≡ dirties t q j self ⌝ }
     {
         let mark = self.mark;
@@ -156,7 +159,7 @@ impl Operation {
     }
 
     // Whether it is active, another's, and in conflict with an operation of t on this object.
-    fn awaited_by(self, t: usize, object: usize, mark: Mark) -> bool
+    pub fn awaited_by(self, t: usize, object: usize, mark: Mark) -> bool
         ensures { λ r. ⌜ r ≡ waitsFor t object mark self ⌝ }
     {
         let fate = self.fate;
@@ -224,65 +227,6 @@ impl Ops {
         Operation::MOST
     }
 
-    // With one operation more, if there is room for it.
-    pub fn made(self, op: Operation) -> Ops
-        ensures { λ r. ⌜ r ≡ made op self ⌝ }
-    {
-        let place = self.count;
-        let mut next = self;
-        if place < Operation::MOST {
-            next.all[place] = op;
-            next.count = place + 1;
-        }
-        next
-    }
-
-    // Operation q delegated to a receiver.
-    pub fn given(self, q: usize, receiver: u16) -> Ops
-        ensures { λ r. ⌜ r ≡ given q receiver self ⌝ }
-    {
-        let n = self.size();
-        let mut next = self;
-        if q < n {
-            let op = self.all[q];
-            let after = op.given_to(receiver);
-            next.all[q] = after;
-        }
-        next
-    }
-
-    // Operation q ends alone in this fate, where it is active.
-    pub fn ended_one(self, q: usize, fate: Fate) -> Ops
-        ensures { λ r. ⌜ r ≡ endedOne q fate self ⌝ }
-    {
-        let n = self.size();
-        let accepted = n as u16;
-        let mut next = self;
-        if q < n {
-            let op = self.all[q];
-            let after = op.ended_alone(fate, accepted);
-            next.all[q] = after;
-        }
-        next
-    }
-
-    // The active operations that t is responsible for end in this fate, and no others.
-    pub fn ended(self, t: usize, fate: Fate) -> Ops
-        ensures { λ r. ⌜ r ≡ endedOps t fate self ⌝ }
-    {
-        let n = self.size();
-        let accepted = n as u16;
-        let mut next = self;
-        let mut i: usize = 0;
-        while i < n {
-            let op = self.all[i];
-            let after = op.ended_by(t, fate, accepted);
-            next.all[i] = after;
-            i += 1;
-        }
-        next
-    }
-
     // For every ordered pair of transactions, whether the first stands before the second by one tie.
     pub fn pairs(self) -> [[bool; Book::TRANSACTIONS]; Book::TRANSACTIONS]
         ensures { λ r. ⌜ r ≡ pairsOf self ⌝ }
@@ -306,63 +250,5 @@ impl Ops {
             j += 1;
         }
         table
-    }
-
-    // Whether one of `n` operations, from number `first` on, is a read that t answers for and saw a write that is not clean for t.
-    fn dirty_among(self, t: usize, first: usize, n: usize) -> bool
-        requires { ⌜ first + n ≤ mostOperations ⌝ }
-        ensures { λ r. ⌜ r ≡ anyBelow n (λ k. dirtyAt self t (first + k)) ⌝ }
-    {
-        let mut k: usize = 0;
-        while k < n {
-            let j = first + k;
-            let q = self.all[j];
-            if q.read_by(t) {
-                let mut i: usize = 0;
-                while i < j {
-                    let p = self.all[i];
-                    if p.dirties(t, q, j) {
-                        return true;
-                    }
-                    i += 1;
-                }
-            }
-            k += 1;
-        }
-        false
-    }
-
-    // Whether a read that t answers for saw a write that is not clean for t.
-    pub fn dirty(self, t: usize) -> bool
-        ensures { λ r. ⌜ r ≡ dirty self t ⌝ }
-    {
-        let n = self.size();
-        self.dirty_among(t, 0, n)
-    }
-
-    // The same of operation q alone.
-    pub fn dirty_one(self, t: usize, q: usize) -> bool
-        ensures { λ r. ⌜ r ≡ dirtyAt self t q ⌝ }
-    {
-        if Operation::MOST <= q {
-            return false;
-        }
-        self.dirty_among(t, q, 1)
-    }
-
-    // Whether an undo t has to wait with this operation for another's that is active.
-    pub fn must_wait(self, t: usize, object: usize, mark: Mark) -> bool
-        ensures { λ r. ⌜ r ≡ mustWait self t object mark ⌝ }
-    {
-        let n = self.size();
-        let mut i: usize = 0;
-        while i < n {
-            let p = self.all[i];
-            if p.awaited_by(t, object, mark) {
-                return true;
-            }
-            i += 1;
-        }
-        false
     }
 }

@@ -9,8 +9,8 @@ use Rattle.tables.specs.Sorts.{placeOf, sortFrom, sortOf, ownedBy}
 use Rattle.tables.specs.Dependencies.{kindOf, risesTo, entryHolds}
 use Rattle.tables.specs.Circles.{beginLink, hasCircle}
 use Rattle.tables.specs.Reading.{emptyTables, sagasFrom, entryAt, dependenciesFrom, unlessCircle, restFrom, tablesBy}
-use Rattle.judge.specs.States.{entered}
-use Rattle.judge.specs.Rules.{declaredBars}
+use Rattle.rules.specs.States.{entered}
+use Rattle.rules.specs.Rules.{declaredBars}
 use Rattle.judge.specs.Judge.{rulingOf, stateAfter, judged}
 use Rattle.closing.specs.Closing.{activeStep, toUndo, nextUndo, outstanding, closing}
 use Rattle.items.specs.Items.{codeOf, eventFrom, itemAt, itemsFrom, itemsAfter}

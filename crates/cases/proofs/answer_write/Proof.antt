@@ -4,12 +4,6 @@ use lib.Seq.{length-take-le}
 use borrow.Author.Needs.{needs}
 use Rattle.cases.proofs.answer_write.Statement.{statement}
 use Rattle.cases.proofs.answer_write.Tie as tie
-use Rattle.cases.proofs.answer_write.Reads as reads
-use Rattle.cases.proofs.answer_write.Lts as lts
-use Rattle.book.proofs.write.Reads as write-reads
-use Rattle.cases.proofs.say.Reads as say-reads
-use Rattle.cases.proofs.say_count.Reads as say-count-reads
-use Rattle.cases.proofs.say_refused.Reads as say-refused-reads
 
 write-requires : tie.Need-write-requires
 write-requires c κs = search needs

@@ -4,9 +4,6 @@ use mathlib.Core.Path.{sym}
 use lib.Seq.{length-take-le}
 use Rattle.cases.proofs.book_case.Statement.{statement}
 use Rattle.cases.proofs.book_case.Tie as tie
-use Rattle.cases.proofs.book_case.Reads as reads
-use Rattle.cases.proofs.book_case.Lts as lts
-use Rattle.cases.proofs.answer_book.Reads as answer-book-reads
 
 returns : tie.Need-returns
 returns c = search needs

@@ -5,9 +5,6 @@ use lib.ListN.{length, length-set}
 use mathlib.Core.Path.{_≡_}
 use Rattle.cases.proofs.fields_from.Statement.{statement}
 use Rattle.cases.proofs.fields_from.Tie as tie
-use Rattle.cases.proofs.fields_from.Reads as reads
-use Rattle.cases.proofs.fields_from.Lts as lts
-use Rattle.cases.proofs.two.Reads as two-reads
 
 abbrev Inv-loop : tie.InvT-loop
 Inv-loop bytes fields₀ i₀ fields i = (i ≤ length fields₀) × (length fields ≡ length fields₀)

@@ -4,9 +4,6 @@ use Prim.Native.Nat.{_-_, _≤_}
 use lib.ListN.{length}
 use Rattle.cases.proofs.say_fields.Statement.{statement}
 use Rattle.cases.proofs.say_fields.Tie as tie
-use Rattle.cases.proofs.say_fields.Reads as reads
-use Rattle.cases.proofs.say_fields.Lts as lts
-use Rattle.cases.proofs.say_field.Reads as say-field-reads
 
 abbrev Inv-loop : tie.InvT-loop
 Inv-loop fields i₀ i = i ≤ length fields

@@ -4,14 +4,9 @@ use mathlib.Core.Path.{sym, ap, _∙_}
 use lib.ListN.{length}
 use lib.Seq.{length-take-le}
 use Rattle.listing.proofs.ListingLaws.{room-kept, wrote-fits}
-use Rattle.io.proofs.write_all.Reads as write-all-reads
 use borrow.Author.Needs.{needs}
 use Rattle.cases.proofs.say_line.Statement.{statement}
 use Rattle.cases.proofs.say_line.Tie as tie
-use Rattle.cases.proofs.say_line.Reads as reads
-use Rattle.cases.proofs.say_line.Lts as lts
-use Rattle.cases.proofs.say.Reads as say-reads
-use Rattle.listing.proofs.put_line.Reads as put-line-reads
 
 -- what was written is in the room
 fits : (c : tie.After-known-told) → c .before .placed .given .0 .0 ≤ length (c .before .before .before .before .put-line .last .1 .1 .0)

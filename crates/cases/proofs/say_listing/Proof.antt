@@ -3,10 +3,6 @@ use borrow.Author.Needs.{needs}
 use Prim.Native.Nat.{_-_, _≤_}
 use Rattle.cases.proofs.say_listing.Statement.{statement}
 use Rattle.cases.proofs.say_listing.Tie as tie
-use Rattle.cases.proofs.say_listing.Reads as reads
-use Rattle.cases.proofs.say_listing.Lts as lts
-use Rattle.cases.proofs.say_line.Reads as say-line-reads
-use Rattle.listing.proofs.line_count.Reads as line-count-reads
 
 abbrev Inv-loop : tie.InvT-loop
 Inv-loop reading lines k₀ k = k ≤ lines

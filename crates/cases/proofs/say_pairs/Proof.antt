@@ -3,11 +3,6 @@ use borrow.Author.Needs.{needs}
 use Prim.Native.Nat.{_-_, _≤_}
 use Rattle.cases.proofs.say_pairs.Statement.{statement}
 use Rattle.cases.proofs.say_pairs.Tie as tie
-use Rattle.cases.proofs.say_pairs.Reads as reads
-use Rattle.cases.proofs.say_pairs.Lts as lts
-use Rattle.cases.proofs.say_count.Reads as say-count-reads
-use Rattle.cases.proofs.say_number.Reads as say-number-reads
-use Rattle.sets.proofs.member.Reads as member-reads
 
 abbrev Inv-loop : tie.InvT-loop
 Inv-loop a row b₀ t4 b = b ≤ 64

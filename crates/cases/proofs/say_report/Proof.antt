@@ -3,13 +3,6 @@ use Prim.Native.Nat.{_-_, _≤_}
 use borrow.Author.Needs.{needs}
 use Rattle.cases.proofs.say_report.Statement.{statement}
 use Rattle.cases.proofs.say_report.Tie as tie
-use Rattle.cases.proofs.say_report.Reads as reads
-use Rattle.cases.proofs.say_report.Lts as lts
-use Rattle.cases.proofs.say.Reads as say-reads
-use Rattle.cases.proofs.say_count.Reads as say-count-reads
-use Rattle.cases.proofs.say_pairs.Reads as say-pairs-reads
-use Rattle.cases.proofs.then_number.Reads as then-number-reads
-use Rattle.report.proofs.report_of.Reads as report-of-reads
 
 abbrev Inv-loop : tie.InvT-loop
 Inv-loop rows a₀ a = a ≤ 64

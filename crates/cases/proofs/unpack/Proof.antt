@@ -4,12 +4,6 @@ use lib.Seq.{length-take-le}
 use borrow.Author.Needs.{needs}
 use Rattle.cases.proofs.unpack.Statement.{statement}
 use Rattle.cases.proofs.unpack.Tie as tie
-use Rattle.cases.proofs.unpack.Reads as reads
-use Rattle.cases.proofs.unpack.Lts as lts
-use Rattle.book.proofs.unpack.Reads as unpack-reads
-use Rattle.cases.proofs.say_count.Reads as say-count-reads
-use Rattle.cases.proofs.say_fields.Reads as say-fields-reads
-use Rattle.cases.proofs.say_refused.Reads as say-refused-reads
 
 unpack-requires : tie.Need-unpack-requires
 unpack-requires c κs = search needs

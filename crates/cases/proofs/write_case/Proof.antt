@@ -4,10 +4,6 @@ use mathlib.Core.Path.{sym}
 use lib.Seq.{length-take-le}
 use Rattle.cases.proofs.write_case.Statement.{statement}
 use Rattle.cases.proofs.write_case.Tie as tie
-use Rattle.cases.proofs.write_case.Reads as reads
-use Rattle.cases.proofs.write_case.Lts as lts
-use Rattle.cases.proofs.answer_write.Reads as answer-write-reads
-use Rattle.cases.proofs.fields_from.Reads as fields-from-reads
 
 slice-aggregate-fields-from : tie.Need-slice-aggregate-fields-from
 slice-aggregate-fields-from c = search needs

@@ -3,7 +3,7 @@ use native.Mathlib.Omega.{arith}
 use mathlib.Core.Path.{_≡_, refl, sym, ap, _∙_}
 use Prim.Native.Nat.{_≤_}
 use Rattle.laws.specs.Index.{highest}
-use Rattle.judge.specs.States.{isActive, own}
+use Rattle.rules.specs.States.{isActive, own}
 use Rattle.closing.specs.Closing.{activeStep}
 use Rattle.laws.proofs.StepLaws.{down-hit, down-miss, down-end}
 use Rattle.closing.proofs.active_step.Statement.{statement}

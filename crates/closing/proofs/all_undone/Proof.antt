@@ -6,9 +6,9 @@ use Prim.Native.Nat.{ℕ, _≤_}
 use lib.Dec.{eqb, ltb}
 use borrow.Author.Tests.{ne-eqb}
 use Rattle.laws.specs.Index.{highest}
-use Rattle.judge.specs.States.{isCommitted, own}
-use Rattle.judge.specs.Rules.{undone}
-use Rattle.judge.specs.declared.Phase.{Phase}
+use Rattle.rules.specs.States.{isCommitted, own}
+use Rattle.rules.specs.Rules.{undone}
+use Rattle.rules.specs.declared.Phase.{Phase}
 use Rattle.laws.proofs.StepLaws.{down-hit, down-miss, down-end}
 use Rattle.closing.proofs.all_undone.Statement.{statement}
 use Rattle.closing.proofs.all_undone.Tie as tie

@@ -1,8 +1,8 @@
 use native.Mathlib.Omega.{arith}
 use Prim.Native.Nat.{_+_}
 use mathlib.Core.Path.{ap, _∙_}
-use Rattle.judge.specs.States.{own}
-use Rattle.judge.specs.declared.Phase.{Phase}
+use Rattle.rules.specs.States.{own}
+use Rattle.rules.specs.declared.Phase.{Phase}
 use Rattle.closing.specs.Closing.{undoStep}
 use Rattle.closing.proofs.ReturnLaws.{back-abort, back-none, back-undo}
 use borrow.Author.Needs.{needs}

@@ -1,8 +1,8 @@
 use mathlib.Core.Path.{_≡_, sym, _∙_}
 use Rattle.laws.proofs.Bools.{told}
-use Rattle.judge.specs.States.{isCommitted, own}
-use Rattle.judge.specs.declared.Phase.{Phase}
-use Rattle.judge.specs.declared.Phase.the-variants.{Idle, Active, Committed, Aborted}
+use Rattle.rules.specs.States.{isCommitted, own}
+use Rattle.rules.specs.declared.Phase.{Phase}
+use Rattle.rules.specs.declared.Phase.the-variants.{Idle, Active, Committed, Aborted}
 use Rattle.closing.specs.Closing.{closing, closingBy}
 use Rattle.closing.proofs.ReturnLaws.{closing-unlisted, closing-at}
 use borrow.Author.Needs.{needs}

@@ -4,8 +4,8 @@ use mathlib.Core.Path.{_≡_, refl, sym, ap, ap₂, _∙_}
 use mathlib.Core.Bool.{Bool, not, _&&_}
 use Prim.Native.Nat.{ℕ, _+_, _-_, _≤_}
 use Rattle.laws.specs.Index.{highest}
-use Rattle.judge.specs.States.{isCommitted, own}
-use Rattle.judge.specs.declared.Phase.{Phase}
+use Rattle.rules.specs.States.{isCommitted, own}
+use Rattle.rules.specs.declared.Phase.{Phase}
 use Rattle.closing.specs.Closing.{nextUndo}
 use Rattle.laws.proofs.StepLaws.{highest-zero, down-hit, down-miss, down-end}
 use Rattle.closing.proofs.next_undo.Statement.{statement}

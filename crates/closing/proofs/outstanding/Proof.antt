@@ -2,9 +2,9 @@ use native.Mathlib.Omega.{arith}
 use Prim.Native.Nat.{ℕ, _+_}
 use mathlib.Core.Path.{_≡_, sym, ap, _∙_}
 use Rattle.laws.proofs.Bools.{told}
-use Rattle.judge.specs.States.{isCommitted, own}
-use Rattle.judge.specs.declared.Phase.{Phase}
-use Rattle.judge.specs.declared.Phase.the-variants.{Idle, Active, Committed, Aborted}
+use Rattle.rules.specs.States.{isCommitted, own}
+use Rattle.rules.specs.declared.Phase.{Phase}
+use Rattle.rules.specs.declared.Phase.the-variants.{Idle, Active, Committed, Aborted}
 use Rattle.closing.specs.Closing.{outstanding, outstandingBy}
 use Rattle.closing.proofs.OutstandingLaws.{toUndo-le}
 use Rattle.closing.proofs.ReturnLaws.{outstanding-unlisted, outstanding-at}

@@ -1,6 +1,6 @@
 use mathlib.Core.Path.{ap, _∙_}
 use Rattle.laws.proofs.Bools.{told}
-use Rattle.judge.specs.States.{isCommitted}
+use Rattle.rules.specs.States.{isCommitted}
 use Rattle.closing.specs.Closing.{owedBy}
 use borrow.Author.Needs.{needs}
 use Rattle.closing.proofs.owed.Statement.{statement}

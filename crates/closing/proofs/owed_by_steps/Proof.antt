@@ -4,7 +4,7 @@ use mathlib.Core.Path.{_≡_, sym, ap, ap₂, _∙_}
 use Prim.Native.Nat.{ℕ, _+_, _-_, _≤_}
 use Rattle.laws.specs.Index.{sumTo}
 use Rattle.laws.proofs.HighestLaws.{sum-le}
-use Rattle.judge.specs.States.{own}
+use Rattle.rules.specs.States.{own}
 use Rattle.closing.specs.Closing.{owed}
 use Rattle.closing.proofs.OutstandingLaws.{owed-le}
 use Rattle.laws.proofs.StepLaws.{sum-none, sum-more}

@@ -2,7 +2,7 @@ use native.Mathlib.Omega.{arith}
 use mathlib.Core.Path.{ap, _∙_}
 use Prim.Native.Nat.{ℕ, _+_, _-_}
 use Rattle.laws.proofs.HighestLaws.{sum-le}
-use Rattle.judge.specs.States.{own}
+use Rattle.rules.specs.States.{own}
 use Rattle.closing.specs.Closing.{owed}
 use Rattle.closing.proofs.OutstandingLaws.{owed-le}
 use Rattle.closing.proofs.ReturnLaws.{undo-no-active, undo-active}

@@ -1,5 +1,5 @@
 use mathlib.Core.Path.{sym, ap}
-use Rattle.judge.specs.declared.Phase.{Phase}
+use Rattle.rules.specs.declared.Phase.{Phase}
 use Rattle.closing.specs.Closing.{undoStep}
 use borrow.Author.Needs.{needs}
 use Rattle.closing.proofs.undo_step.Statement.{statement}

@@ -1,61 +1,95 @@
+use Prim.Native.Nat.{ℕ}
 use mathlib.Core.Path.{_≡_, sym, _∙_}
-use mathlib.Core.Bool.{true, false, not}
-use Rattle.laws.proofs.Bools.{told, told-not}
-use Rattle.tables.specs.Sorts.{isKnown, sortOf}
-use Rattle.judge.specs.States.{isIdle, phaseOf}
-use Rattle.judge.specs.Rules.{beginBarred, declaredBars}
-use Rattle.judge.specs.Judge.{unknown}
+use mathlib.Core.Bool.{not}
+use mathlib.Core.List.{List}
+use lib.ListN.{drop}
+use Rattle.laws.specs.Lines.{Line}
+use Rattle.terms.specs.declared.Refusal.{Refusal}
+use Rattle.tables.specs.declared.Sort.{Sort}
+use Rattle.tables.specs.declared.Tables.{Tables}
+use Rattle.sheet.specs.Sheet.{Holds}
+use Rattle.rules.specs.Lent.{transactionsIn}
+use Rattle.tables.specs.Sorts.{isKnown}
+use Rattle.rules.specs.Rules.{beginBarred}
+use Rattle.terms.specs.declared.Event.the-variants.{Begin}
+use Rattle.judge.specs.Judge.{beginLines, changeOf, ruledBy}
+use Rattle.judge.specs.declared.Ruling.{Ruling}
+use Rattle.judge.proofs.RuleLaws.{ruled-passed, ruled-stopped}
+use Rattle.judge.proofs.LentLaws.{sorted}
 use borrow.Author.Needs.{needs}
 use Rattle.judge.proofs.begin.Statement.{statement}
 use Rattle.judge.proofs.begin.Tie as tie
 
--- what each test says where it was passed
-known : (c : tie.Else1) → let a = c .before .before .before .args in unknown (a .tables) (a .t) ≡ false
-known c = told-not isKnown (c .before .is-known .ensures) (c .before .before .sort-of .ensures) (c .if1 .left)
+-- the lines from one on, and what they give
+abbrev rest : ℕ → tie.Start → Tables → List (Line Refusal)
+rest k s tables = drop k (beginLines tables (transactionsIn (s .args .transactions .now)) (s .args .t))
 
-idle : (c : tie.Else2) → let a = c .before .before .before .before .before .before .args in not (isIdle (phaseOf (a .transactions) (a .t))) ≡ false
-idle c = told-not isIdle (c .before .is-idle .ensures) (c .before .before .phase-of .ensures) (c .if2 .left)
+abbrev from : ℕ → tie.Start → Tables → Ruling
+from k s tables = ruledBy (rest k s tables) (changeOf (Begin (s .args .t)))
 
-no-rule : (c : tie.Else3) → let a = c .before .before .before .before .before .before .before .before .args in beginBarred (a .transactions) (sortOf (a .tables) (a .t)) ≡ false
-no-rule c = told (beginBarred (c .before .before .before .before .before .before .before .before .args .transactions)) (c .before .begin-barred .ensures) (c .before .before .before .before .before .before .before .sort-of .ensures) (c .if3 .left)
+abbrev Held : tie.Start → Tables → Type 0
+Held s tables = Holds tables (s .args .sheet .now)
 
-no-dependency : (c : tie.Else4) → let a = c .before .before .before .before .before .before .before .before .before .before .args in declaredBars true (a .tables) (a .transactions) (a .t) ≡ false
-no-dependency c = sym (c .before .declared-bars .ensures) ∙ c .if4 .left
+-- each line that was passed
+past1 : (c : tie.Else1) (tables : Tables) → Held (c .before .before) tables → from 0 (c .before .before) tables ≡ from 1 (c .before .before) tables
+past1 c tables h =
+    let s = c .before .before in
+    let a = s .args in
+    ruled-passed (rest 0 s tables) (changeOf (Begin (s .args .t))) (sym (sorted (λ (x : Sort). not (isKnown x)) (a .sheet .now) tables h (a .t) (c .before .unknown .ensures)) ∙ c .if1 .left)
 
-sort-of-requires : tie.Need-sort-of-requires
-sort-of-requires c κs = search needs
+past2 : (c : tie.Else2) (tables : Tables) → Held (c .before .before .before .before) tables → from 0 (c .before .before .before .before) tables ≡ from 2 (c .before .before .before .before) tables
+past2 c tables h =
+    let s = c .before .before .before .before in
+    let a = s .args in
+    past1 (c .before .before) tables h ∙ ruled-passed (rest 1 s tables) (changeOf (Begin (s .args .t))) (sym (c .before .not-idle .ensures) ∙ c .if2 .left)
 
-is-known-requires : tie.Need-is-known-requires
-is-known-requires c κs = search needs
+past3 : (c : tie.Else3) (tables : Tables) → Held (c .before .before .before .before .before .before) tables → from 0 (c .before .before .before .before .before .before) tables ≡ from 3 (c .before .before .before .before .before .before) tables
+past3 c tables h =
+    let s = c .before .before .before .before .before .before in
+    let a = s .args in
+    past2 (c .before .before) tables h ∙ ruled-passed (rest 2 s tables) (changeOf (Begin (s .args .t))) (sym (sorted (beginBarred (transactionsIn (a .transactions .now))) (a .sheet .now) tables h (a .t) (c .before .begin-forbidden .ensures)) ∙ c .if3 .left)
+
+past4 : (c : tie.Else4) (tables : Tables) → Held (c .before .before .before .before .before .before .before .before) tables → from 0 (c .before .before .before .before .before .before .before .before) tables ≡ from 4 (c .before .before .before .before .before .before .before .before) tables
+past4 c tables h =
+    let s = c .before .before .before .before .before .before .before .before in
+    let a = s .args in
+    past3 (c .before .before) tables h ∙ ruled-passed (rest 3 s tables) (changeOf (Begin (s .args .t))) (sym (c .before .declared-bars .ensures tables h) ∙ c .if4 .left)
+
+unknown-requires : tie.Need-unknown-requires
+unknown-requires c κs = search needs
 
 refused-requires : tie.Need-refused-requires
 refused-requires c κs = search needs
 
 returns : tie.Need-returns
-returns c = rw (told-not isKnown (c .before .before .is-known .ensures) (c .before .before .before .sort-of .ensures) (c .before .if1 .taken)) (c .refused .ensures)
+returns c tables h =
+    let s = c .before .before .before in
+    let a = s .args in
+    c .refused .ensures ∙ sym (ruled-stopped (rest 0 s tables) (changeOf (Begin (s .args .t))) (sym (sorted (λ (x : Sort). not (isKnown x)) (a .sheet .now) tables h (a .t) (c .before .before .unknown .ensures)) ∙ c .before .if1 .taken))
 
-phase-of-requires : tie.Need-phase-of-requires
-phase-of-requires c κs = search needs
-
-is-idle-requires : tie.Need-is-idle-requires
-is-idle-requires c κs = search needs
+not-idle-requires : tie.Need-not-idle-requires
+not-idle-requires c κs = search needs
 
 refused-requires-2 : tie.Need-refused-requires-2
 refused-requires-2 c κs = search needs
 
 returns-2 : tie.Need-returns-2
-returns-2 c = rw (known (c .before .before .before .before), told-not isIdle (c .before .before .is-idle .ensures) (c .before .before .before .phase-of .ensures) (c .before .if2 .taken)) (c .refused2 .ensures)
+returns-2 c tables h =
+    let s = c .before .before .before .before .before in
+    let a = s .args in
+    c .refused2 .ensures ∙ sym (past1 (c .before .before .before) tables h ∙ ruled-stopped (rest 1 s tables) (changeOf (Begin (s .args .t))) (sym (c .before .before .not-idle .ensures) ∙ c .before .if2 .taken))
 
-begin-barred-requires : tie.Need-begin-barred-requires
-begin-barred-requires c κs = search needs
+begin-forbidden-requires : tie.Need-begin-forbidden-requires
+begin-forbidden-requires c κs = search needs
 
 refused-requires-3 : tie.Need-refused-requires-3
 refused-requires-3 c κs = search needs
 
 returns-3 : tie.Need-returns-3
-returns-3 c =
-    let rule = told (beginBarred (c .before .before .before .before .before .before .before .before .before .args .transactions)) (c .before .before .begin-barred .ensures) (c .before .before .before .before .before .before .before .before .sort-of .ensures) (c .before .if3 .taken) in
-    rw (known (c .before .before .before .before .before .before), idle (c .before .before .before), rule) (c .refused3 .ensures)
+returns-3 c tables h =
+    let s = c .before .before .before .before .before .before .before in
+    let a = s .args in
+    c .refused3 .ensures ∙ sym (past2 (c .before .before .before) tables h ∙ ruled-stopped (rest 2 s tables) (changeOf (Begin (s .args .t))) (sym (sorted (beginBarred (transactionsIn (a .transactions .now))) (a .sheet .now) tables h (a .t) (c .before .before .begin-forbidden .ensures)) ∙ c .before .if3 .taken))
 
 declared-bars-requires : tie.Need-declared-bars-requires
 declared-bars-requires c κs = search needs
@@ -64,29 +98,32 @@ refused-requires-4 : tie.Need-refused-requires-4
 refused-requires-4 c κs = search needs
 
 returns-4 : tie.Need-returns-4
-returns-4 c =
-    rw (known (c .before .before .before .before .before .before .before .before), idle (c .before .before .before .before .before), no-rule (c .before .before .before), sym (c .before .before .declared-bars .ensures) ∙ c .before .if4 .taken)
-    (c .refused4 .ensures)
+returns-4 c tables h =
+    let s = c .before .before .before .before .before .before .before .before .before in
+    let a = s .args in
+    c .refused4 .ensures ∙ sym (past3 (c .before .before .before) tables h ∙ ruled-stopped (rest 3 s tables) (changeOf (Begin (s .args .t))) (sym (c .before .before .declared-bars .ensures tables h) ∙ c .before .if4 .taken))
+
+accepted-requires : tie.Need-accepted-requires
+accepted-requires c κs = search needs
 
 returns-5 : tie.Need-returns-5
-returns-5 c = rw (known (c .before .before .before .before .before .before .before), idle (c .before .before .before .before), no-rule (c .before .before), no-dependency c)
+returns-5 c tables h = c .accepted .ensures ∙ sym (past4 (c .before) tables h)
 
 pub begin-spec : {M : Type 1} → statement M
 begin-spec =
     tie.close
     (tie.spec
-    sort-of-requires
-    is-known-requires
+    unknown-requires
     refused-requires
     returns
-    phase-of-requires
-    is-idle-requires
+    not-idle-requires
     refused-requires-2
     returns-2
-    begin-barred-requires
+    begin-forbidden-requires
     refused-requires-3
     returns-3
     declared-bars-requires
     refused-requires-4
     returns-4
+    accepted-requires
     returns-5)

@@ -1,70 +1,108 @@
+use Prim.Native.Nat.{ℕ}
 use mathlib.Core.Path.{_≡_, sym, _∙_}
-use mathlib.Core.Bool.{false}
-use Rattle.laws.proofs.Bools.{told, told-not}
-use Rattle.ties.specs.Ties.{dirty, onRing}
-use Rattle.tables.specs.Sorts.{isKnown, sortOf}
-use Rattle.judge.specs.States.{isActive}
-use Rattle.judge.specs.Rules.{commitBarred, declaredBars}
-use Rattle.judge.specs.Judge.{unknown, inactive}
+use mathlib.Core.Bool.{not}
+use mathlib.Core.List.{List}
+use lib.ListN.{drop}
+use Rattle.laws.specs.Lines.{Line}
+use Rattle.terms.specs.declared.Refusal.{Refusal}
+use Rattle.tables.specs.declared.Sort.{Sort}
+use Rattle.tables.specs.declared.Tables.{Tables}
+use Rattle.sheet.specs.Sheet.{Holds}
+use Rattle.rules.specs.Lent.{transactionsIn}
+use Rattle.cells.specs.Cells.{opsIn}
+use Rattle.tables.specs.Sorts.{isKnown}
+use Rattle.rules.specs.Rules.{commitBarred}
+use Rattle.terms.specs.declared.Event.the-variants.{Commit}
+use Rattle.judge.specs.Judge.{commitLines, changeOf, ruledBy}
+use Rattle.judge.specs.declared.Ruling.{Ruling}
+use Rattle.judge.proofs.RuleLaws.{ruled-passed, ruled-stopped}
+use Rattle.judge.proofs.LentLaws.{sorted}
 use borrow.Author.Needs.{needs}
 use Rattle.judge.proofs.commit.Statement.{statement}
 use Rattle.judge.proofs.commit.Tie as tie
 
--- what each test says where it was passed
-known : (c : tie.Else1) → let a = c .before .before .before .args in unknown (a .tables) (a .t) ≡ false
-known c = told-not isKnown (c .before .is-known .ensures) (c .before .before .sort-of .ensures) (c .if1 .left)
+-- the lines from one on, and what they give
+abbrev rest : ℕ → tie.Start → Tables → List (Line Refusal)
+rest k s tables = drop k (commitLines tables (transactionsIn (s .args .transactions .now)) (opsIn (s .args .ops .now) (s .args .n)) (s .args .t))
 
-active : (c : tie.Else2) → let a = c .before .before .before .before .before .before .args in inactive (a .transactions) (a .t) ≡ false
-active c = told-not isActive (c .before .is-active .ensures) (c .before .before .phase-of .ensures) (c .if2 .left)
+abbrev from : ℕ → tie.Start → Tables → Ruling
+from k s tables = ruledBy (rest k s tables) (changeOf (Commit (s .args .t)))
 
-no-rule : (c : tie.Else3) → let a = c .before .before .before .before .before .before .before .before .args in commitBarred (a .transactions) (sortOf (a .tables) (a .t)) ≡ false
-no-rule c = told (commitBarred (c .before .before .before .before .before .before .before .before .args .transactions)) (c .before .commit-barred .ensures) (c .before .before .before .before .before .before .before .sort-of .ensures) (c .if3 .left)
+abbrev Held : tie.Start → Tables → Type 0
+Held s tables = Holds tables (s .args .sheet .now)
 
-no-dependency : (c : tie.Else4) → let a = c .before .before .before .before .before .before .before .before .before .before .args in declaredBars false (a .tables) (a .transactions) (a .t) ≡ false
-no-dependency c = sym (c .before .declared-bars .ensures) ∙ c .if4 .left
+-- each line that was passed
+past1 : (c : tie.Else1) (tables : Tables) → Held (c .before .before) tables → from 0 (c .before .before) tables ≡ from 1 (c .before .before) tables
+past1 c tables h =
+    let s = c .before .before in
+    let a = s .args in
+    ruled-passed (rest 0 s tables) (changeOf (Commit (s .args .t))) (sym (sorted (λ (x : Sort). not (isKnown x)) (a .sheet .now) tables h (a .t) (c .before .unknown .ensures)) ∙ c .if1 .left)
 
-clean : (c : tie.Else5) → let a = c .before .before .before .before .before .before .before .before .before .before .before .before .args in dirty (a .ops) (a .t) ≡ false
-clean c = sym (c .before .dirty .ensures) ∙ c .if5 .left
+past2 : (c : tie.Else2) (tables : Tables) → Held (c .before .before .before .before) tables → from 0 (c .before .before .before .before) tables ≡ from 2 (c .before .before .before .before) tables
+past2 c tables h =
+    let s = c .before .before .before .before in
+    let a = s .args in
+    past1 (c .before .before) tables h ∙ ruled-passed (rest 1 s tables) (changeOf (Commit (s .args .t))) (sym (c .before .inactive .ensures) ∙ c .if2 .left)
 
-no-ring : (c : tie.Else6) → let a = c .before .before .before .before .before .before .before .before .before .before .before .before .before .before .args in onRing (a .ops) (a .t) ≡ false
-no-ring c = sym (c .before .on-ring .ensures) ∙ c .if6 .left
+past3 : (c : tie.Else3) (tables : Tables) → Held (c .before .before .before .before .before .before) tables → from 0 (c .before .before .before .before .before .before) tables ≡ from 3 (c .before .before .before .before .before .before) tables
+past3 c tables h =
+    let s = c .before .before .before .before .before .before in
+    let a = s .args in
+    past2 (c .before .before) tables h ∙ ruled-passed (rest 2 s tables) (changeOf (Commit (s .args .t))) (sym (sorted (commitBarred (transactionsIn (a .transactions .now))) (a .sheet .now) tables h (a .t) (c .before .commit-forbidden .ensures)) ∙ c .if3 .left)
 
-sort-of-requires : tie.Need-sort-of-requires
-sort-of-requires c κs = search needs
+past4 : (c : tie.Else4) (tables : Tables) → Held (c .before .before .before .before .before .before .before .before) tables → from 0 (c .before .before .before .before .before .before .before .before) tables ≡ from 4 (c .before .before .before .before .before .before .before .before) tables
+past4 c tables h =
+    let s = c .before .before .before .before .before .before .before .before in
+    let a = s .args in
+    past3 (c .before .before) tables h ∙ ruled-passed (rest 3 s tables) (changeOf (Commit (s .args .t))) (sym (c .before .declared-bars .ensures tables h) ∙ c .if4 .left)
 
-is-known-requires : tie.Need-is-known-requires
-is-known-requires c κs = search needs
+past5 : (c : tie.Else5) (tables : Tables) → Held (c .before .before .before .before .before .before .before .before .before .before) tables → from 0 (c .before .before .before .before .before .before .before .before .before .before) tables ≡ from 5 (c .before .before .before .before .before .before .before .before .before .before) tables
+past5 c tables h =
+    let s = c .before .before .before .before .before .before .before .before .before .before in
+    let a = s .args in
+    past4 (c .before .before) tables h ∙ ruled-passed (rest 4 s tables) (changeOf (Commit (s .args .t))) (sym (c .before .dirty .ensures) ∙ c .if5 .left)
+
+past6 : (c : tie.Else6) (tables : Tables) → Held (c .before .before .before .before .before .before .before .before .before .before .before .before) tables → from 0 (c .before .before .before .before .before .before .before .before .before .before .before .before) tables ≡ from 6 (c .before .before .before .before .before .before .before .before .before .before .before .before) tables
+past6 c tables h =
+    let s = c .before .before .before .before .before .before .before .before .before .before .before .before in
+    let a = s .args in
+    past5 (c .before .before) tables h ∙ ruled-passed (rest 5 s tables) (changeOf (Commit (s .args .t))) (sym (c .before .on-ring .ensures) ∙ c .if6 .left)
+
+unknown-requires : tie.Need-unknown-requires
+unknown-requires c κs = search needs
 
 refused-requires : tie.Need-refused-requires
 refused-requires c κs = search needs
 
 returns : tie.Need-returns
-returns c = rw (told-not isKnown (c .before .before .is-known .ensures) (c .before .before .before .sort-of .ensures) (c .before .if1 .taken)) (c .refused .ensures)
+returns c tables h =
+    let s = c .before .before .before in
+    let a = s .args in
+    c .refused .ensures ∙ sym (ruled-stopped (rest 0 s tables) (changeOf (Commit (s .args .t))) (sym (sorted (λ (x : Sort). not (isKnown x)) (a .sheet .now) tables h (a .t) (c .before .before .unknown .ensures)) ∙ c .before .if1 .taken))
 
-phase-of-requires : tie.Need-phase-of-requires
-phase-of-requires c κs = search needs
-
-is-active-requires : tie.Need-is-active-requires
-is-active-requires c κs = search needs
+inactive-requires : tie.Need-inactive-requires
+inactive-requires c κs = search needs
 
 refused-requires-2 : tie.Need-refused-requires-2
 refused-requires-2 c κs = search needs
 
 returns-2 : tie.Need-returns-2
-returns-2 c =
-    rw (known (c .before .before .before .before), told-not isActive (c .before .before .is-active .ensures) (c .before .before .before .phase-of .ensures) (c .before .if2 .taken))
-    (c .refused2 .ensures)
+returns-2 c tables h =
+    let s = c .before .before .before .before .before in
+    let a = s .args in
+    c .refused2 .ensures ∙ sym (past1 (c .before .before .before) tables h ∙ ruled-stopped (rest 1 s tables) (changeOf (Commit (s .args .t))) (sym (c .before .before .inactive .ensures) ∙ c .before .if2 .taken))
 
-commit-barred-requires : tie.Need-commit-barred-requires
-commit-barred-requires c κs = search needs
+commit-forbidden-requires : tie.Need-commit-forbidden-requires
+commit-forbidden-requires c κs = search needs
 
 refused-requires-3 : tie.Need-refused-requires-3
 refused-requires-3 c κs = search needs
 
 returns-3 : tie.Need-returns-3
-returns-3 c =
-    let rule = told (commitBarred (c .before .before .before .before .before .before .before .before .before .args .transactions)) (c .before .before .commit-barred .ensures) (c .before .before .before .before .before .before .before .before .sort-of .ensures) (c .before .if3 .taken) in
-    rw (known (c .before .before .before .before .before .before), active (c .before .before .before), rule) (c .refused3 .ensures)
+returns-3 c tables h =
+    let s = c .before .before .before .before .before .before .before in
+    let a = s .args in
+    c .refused3 .ensures ∙ sym (past2 (c .before .before .before) tables h ∙ ruled-stopped (rest 2 s tables) (changeOf (Commit (s .args .t))) (sym (sorted (commitBarred (transactionsIn (a .transactions .now))) (a .sheet .now) tables h (a .t) (c .before .before .commit-forbidden .ensures)) ∙ c .before .if3 .taken))
 
 declared-bars-requires : tie.Need-declared-bars-requires
 declared-bars-requires c κs = search needs
@@ -73,9 +111,10 @@ refused-requires-4 : tie.Need-refused-requires-4
 refused-requires-4 c κs = search needs
 
 returns-4 : tie.Need-returns-4
-returns-4 c =
-    rw (known (c .before .before .before .before .before .before .before .before), active (c .before .before .before .before .before), no-rule (c .before .before .before), sym (c .before .before .declared-bars .ensures) ∙ c .before .if4 .taken)
-    (c .refused4 .ensures)
+returns-4 c tables h =
+    let s = c .before .before .before .before .before .before .before .before .before in
+    let a = s .args in
+    c .refused4 .ensures ∙ sym (past3 (c .before .before .before) tables h ∙ ruled-stopped (rest 3 s tables) (changeOf (Commit (s .args .t))) (sym (c .before .before .declared-bars .ensures tables h) ∙ c .before .if4 .taken))
 
 dirty-requires : tie.Need-dirty-requires
 dirty-requires c κs = search needs
@@ -84,9 +123,10 @@ refused-requires-5 : tie.Need-refused-requires-5
 refused-requires-5 c κs = search needs
 
 returns-5 : tie.Need-returns-5
-returns-5 c =
-    rw (known (c .before .before .before .before .before .before .before .before .before .before), active (c .before .before .before .before .before .before .before), no-rule (c .before .before .before .before .before), no-dependency (c .before .before .before), sym (c .before .before .dirty .ensures) ∙ c .before .if5 .taken)
-    (c .refused5 .ensures)
+returns-5 c tables h =
+    let s = c .before .before .before .before .before .before .before .before .before .before .before in
+    let a = s .args in
+    c .refused5 .ensures ∙ sym (past4 (c .before .before .before) tables h ∙ ruled-stopped (rest 4 s tables) (changeOf (Commit (s .args .t))) (sym (c .before .before .dirty .ensures) ∙ c .before .if5 .taken))
 
 on-ring-requires : tie.Need-on-ring-requires
 on-ring-requires c κs = search needs
@@ -95,26 +135,28 @@ refused-requires-6 : tie.Need-refused-requires-6
 refused-requires-6 c κs = search needs
 
 returns-6 : tie.Need-returns-6
-returns-6 c =
-    rw (known (c .before .before .before .before .before .before .before .before .before .before .before .before), active (c .before .before .before .before .before .before .before .before .before), no-rule (c .before .before .before .before .before .before .before), no-dependency (c .before .before .before .before .before), clean (c .before .before .before), sym (c .before .before .on-ring .ensures) ∙ c .before .if6 .taken)
-    (c .refused6 .ensures)
+returns-6 c tables h =
+    let s = c .before .before .before .before .before .before .before .before .before .before .before .before .before in
+    let a = s .args in
+    c .refused6 .ensures ∙ sym (past5 (c .before .before .before) tables h ∙ ruled-stopped (rest 5 s tables) (changeOf (Commit (s .args .t))) (sym (c .before .before .on-ring .ensures) ∙ c .before .if6 .taken))
+
+accepted-requires : tie.Need-accepted-requires
+accepted-requires c κs = search needs
 
 returns-7 : tie.Need-returns-7
-returns-7 c = rw (known (c .before .before .before .before .before .before .before .before .before .before .before), active (c .before .before .before .before .before .before .before .before), no-rule (c .before .before .before .before .before .before), no-dependency (c .before .before .before .before), clean (c .before .before), no-ring c)
+returns-7 c tables h = c .accepted .ensures ∙ sym (past6 (c .before) tables h)
 
 pub commit-spec : {M : Type 1} → statement M
 commit-spec =
     tie.close
     (tie.spec
-    sort-of-requires
-    is-known-requires
+    unknown-requires
     refused-requires
     returns
-    phase-of-requires
-    is-active-requires
+    inactive-requires
     refused-requires-2
     returns-2
-    commit-barred-requires
+    commit-forbidden-requires
     refused-requires-3
     returns-3
     declared-bars-requires
@@ -126,4 +168,5 @@ commit-spec =
     on-ring-requires
     refused-requires-6
     returns-6
+    accepted-requires
     returns-7)

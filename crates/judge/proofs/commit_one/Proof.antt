@@ -3,29 +3,54 @@ use mathlib.Core.List.{List, [], _∷_}
 use Rattle.laws.specs.Lines.{Line, line}
 use Rattle.terms.specs.declared.Refusal.{Refusal}
 use Rattle.terms.specs.declared.Refusal.the-variants.{DirtyRead, OnRing}
-use Rattle.ties.specs.Ties.{dirtyAt, onRing}
-use Rattle.judge.specs.Judge.{changeOf, commitOneLines, ruledBy, singleLines}
 use Rattle.terms.specs.declared.Event.the-variants.{CommitOne}
-use Rattle.judge.proofs.RuleLaws.{shared-refused, shared-passed}
+use Rattle.ties.specs.Ties.{dirtyAt, onRing}
+use Rattle.cells.specs.Cells.{opsIn}
+use Rattle.tables.specs.declared.Tables.{Tables}
+use Rattle.sheet.specs.Sheet.{Holds}
+use Rattle.rules.specs.Lent.{transactionsIn}
+use Rattle.judge.specs.Judge.{changeOf, commitOneLines, ruledBy, singleLines}
+use Rattle.judge.proofs.RuleLaws.{shared-refused, shared-passed, ruled-passed, ruled-stopped}
+use Rattle.judge.proofs.LentLaws.{dirty-told}
 use borrow.Author.Needs.{needs}
 use Rattle.judge.proofs.commit_one.Statement.{statement}
 use Rattle.judge.proofs.commit_one.Tie as tie
 
 -- the lines that the abort of one operation has too, and the two that are the commit's own
-abbrev shared : tie.Start → List (Line Refusal)
-shared s = singleLines (s .args .tables) (s .args .transactions) (s .args .ops) (s .args .t) (s .args .q)
+abbrev shared : tie.Start → Tables → List (Line Refusal)
+shared s tables = singleLines tables (transactionsIn (s .args .transactions .now)) (opsIn (s .args .ops .now) (s .args .n)) (s .args .t) (s .args .q)
+
+abbrev last : tie.Start → List (Line Refusal)
+last s = line OnRing (onRing (opsIn (s .args .ops .now) (s .args .n)) (s .args .t)) ∷ []
 
 abbrev own : tie.Start → List (Line Refusal)
-own s = line DirtyRead (dirtyAt (s .args .ops) (s .args .t) (s .args .q)) ∷ line OnRing (onRing (s .args .ops) (s .args .t)) ∷ []
+own s = line DirtyRead (dirtyAt (opsIn (s .args .ops .now) (s .args .n)) (s .args .t) (s .args .q)) ∷ last s
 
--- past the first, the second decide
-passed : (c : tie.After-enum-told)
+abbrev whole : tie.Start → Tables → List (Line Refusal)
+whole s tables = commitOneLines tables (transactionsIn (s .args .transactions .now)) (opsIn (s .args .ops .now) (s .args .n)) (s .args .t) (s .args .q)
+
+-- past the shared lines, the commit's own decide
+allowed : (c : tie.After-enum-told) (tables : Tables) → Holds tables (c .before .before .before .args .sheet .now)
     → let s = c .before .before .before in
-    ruledBy (commitOneLines (s .args .tables) (s .args .transactions) (s .args .ops) (s .args .t) (s .args .q)) (changeOf (CommitOne (s .args .t) (s .args .q)))
-    ≡ ruledBy (own s) (changeOf (CommitOne (s .args .t) (s .args .q)))
-passed c =
+    ruledBy (whole s tables) (changeOf (CommitOne (s .args .t) (s .args .q))) ≡ ruledBy (own s) (changeOf (CommitOne (s .args .t) (s .args .q)))
+allowed c tables h =
     let s = c .before .before .before in
-    shared-passed (shared s) (own s) (changeOf (CommitOne (s .args .t) (s .args .q))) (c .before .before .single .ensures) (c .enum-told .given .1)
+    shared-passed (shared s tables) (own s) (changeOf (CommitOne (s .args .t) (s .args .q))) (c .before .before .single .ensures tables h) (c .enum-told .given .1)
+
+-- the operation was accepted, so that the test for dirty reads is of it
+dirty-is : (c : tie.After-dirty-one) (tables : Tables) → Holds tables (c .before .before .before .before .args .sheet .now)
+    → let a = c .before .before .before .before .args in dirtyAt (opsIn (a .ops .now) (a .n)) (a .t) (a .q) ≡ c .dirty-one .result
+dirty-is c tables h =
+    let a = c .before .before .before .before .args in
+    sym (c .dirty-one .ensures
+    ∙ dirty-told tables (transactionsIn (a .transactions .now)) (a .ops .now) (a .n) (a .t) (a .q) (sym (c .before .before .before .single .ensures tables h) ∙ c .before .enum-told .given .1))
+
+clean : (c : tie.Else1) (tables : Tables) → Holds tables (c .before .before .before .before .before .args .sheet .now)
+    → let s = c .before .before .before .before .before in
+    ruledBy (whole s tables) (changeOf (CommitOne (s .args .t) (s .args .q))) ≡ ruledBy (last s) (changeOf (CommitOne (s .args .t) (s .args .q)))
+clean c tables h =
+    let s = c .before .before .before .before .before in
+    allowed (c .before .before) tables h ∙ ruled-passed (own s) (changeOf (CommitOne (s .args .t) (s .args .q))) (dirty-is (c .before) tables h ∙ c .if1 .left)
 
 single-requires : tie.Need-single-requires
 single-requires c κs = search needs
@@ -37,9 +62,9 @@ enum-told-2 : tie.Need-enum-told-2
 enum-told-2 c = search needs
 
 returns : tie.Need-returns
-returns c =
+returns c tables h =
     let s = c .before .before .before in
-    shared-refused (shared s) (own s) (changeOf (CommitOne (s .args .t) (s .args .q))) (c .before .before .single .ensures) _ (c .enum-told2 .given .1)
+    shared-refused (shared s tables) (own s) (changeOf (CommitOne (s .args .t) (s .args .q))) (c .before .before .single .ensures tables h) _ (c .enum-told2 .given .1)
 
 dirty-one-requires : tie.Need-dirty-one-requires
 dirty-one-requires c κs = search needs
@@ -48,9 +73,7 @@ refused-requires : tie.Need-refused-requires
 refused-requires c κs = search needs
 
 returns-2 : tie.Need-returns-2
-returns-2 c =
-    let dirty = sym (c .before .before .dirty-one .ensures) ∙ c .before .if1 .taken in
-    c .refused .ensures ∙ sym (passed (c .before .before .before) ∙ rw dirty)
+returns-2 c tables h = let s = c .before .before .before .before .before .before in c .refused .ensures ∙ sym (allowed (c .before .before .before) tables h ∙ ruled-stopped (own s) (changeOf (CommitOne (s .args .t) (s .args .q))) (dirty-is (c .before .before) tables h ∙ c .before .if1 .taken))
 
 on-ring-requires : tie.Need-on-ring-requires
 on-ring-requires c κs = search needs
@@ -59,16 +82,13 @@ refused-requires-2 : tie.Need-refused-requires-2
 refused-requires-2 c κs = search needs
 
 returns-3 : tie.Need-returns-3
-returns-3 c =
-    let clean = sym (c .before .before .before .before .dirty-one .ensures) ∙ c .before .before .before .if1 .left in
-    let ring = sym (c .before .before .on-ring .ensures) ∙ c .before .if2 .taken in
-    c .refused2 .ensures ∙ sym (passed (c .before .before .before .before .before) ∙ rw (clean, ring))
+returns-3 c tables h = let s = c .before .before .before .before .before .before .before .before in c .refused2 .ensures ∙ sym (clean (c .before .before .before) tables h ∙ ruled-stopped (last s) (changeOf (CommitOne (s .args .t) (s .args .q))) (sym (c .before .before .on-ring .ensures) ∙ c .before .if2 .taken))
+
+accepted-requires : tie.Need-accepted-requires
+accepted-requires c κs = search needs
 
 returns-4 : tie.Need-returns-4
-returns-4 c =
-    let clean = sym (c .before .before .before .dirty-one .ensures) ∙ c .before .before .if1 .left in
-    let free = sym (c .before .on-ring .ensures) ∙ c .if2 .left in
-    sym (passed (c .before .before .before .before) ∙ rw (clean, free))
+returns-4 c tables h = let s = c .before .before .before .before .before .before .before .before in c .accepted .ensures ∙ sym (clean (c .before .before .before) tables h ∙ ruled-passed (last s) (changeOf (CommitOne (s .args .t) (s .args .q))) (sym (c .before .before .on-ring .ensures) ∙ c .before .if2 .left))
 
 pub commit-one-spec : {M : Type 1} → statement M
 commit-one-spec =
@@ -84,4 +104,5 @@ commit-one-spec =
     on-ring-requires
     refused-requires-2
     returns-3
+    accepted-requires
     returns-4)

@@ -1,91 +1,96 @@
 use native.Mathlib.Omega.{arith}
-use Prim.Native.Nat.{ℕ, _<_}
-use mathlib.Core.Path.{_≡_, sym, ap, ap₂, _∙_}
-use mathlib.Core.Bool.{Bool, false, not, _||_}
-use lib.Dec.{ltb, eqb}
-use lib.ListN.{length}
-use borrow.Author.Tests.{eq-eqb, ne-eqb}
+use lib.Dec.{eqb}
 use Rattle.laws.proofs.Bools.{off-or}
 use Rattle.terms.specs.Limits.{mostTransactions}
-use Rattle.ties.specs.Operations.{mostOperations, opAt, size}
-use Rattle.tables.specs.Sorts.{isKnown, sortOf}
-use Rattle.judge.specs.States.{isActive}
-use Rattle.judge.specs.Judge.{unknown, inactive, noParty}
-use Rattle.judge.proofs.StateLaws.{active-small}
-use Rattle.judge.proofs.RuleLaws.{operation-known}
+use Rattle.ties.specs.Operations.{mostOperations}
+use Prim.Native.Nat.{ℕ, _<_}
+use mathlib.Core.Path.{_≡_, sym, ap, ap₂, _∙_}
+use mathlib.Core.Bool.{Bool, not, _||_}
+use mathlib.Core.List.{List}
+use lib.ListN.{drop}
+use Rattle.laws.specs.Lines.{Line}
+use Rattle.terms.specs.declared.Refusal.{Refusal}
+use Rattle.tables.specs.declared.Sort.{Sort}
+use Rattle.tables.specs.declared.Tables.{Tables}
+use Rattle.sheet.specs.Sheet.{Holds}
+use Rattle.rules.specs.Lent.{transactionsIn}
+use Rattle.cells.specs.Cells.{opsIn}
+use Rattle.tables.specs.Sorts.{isKnown}
+use Rattle.terms.specs.declared.Event.the-variants.{Delegate}
+use Rattle.judge.specs.Judge.{delegateLines, changeOf, noParty, ruledBy}
+use Rattle.judge.specs.declared.Ruling.{Ruling}
+use Rattle.judge.proofs.RuleLaws.{ruled-passed, ruled-stopped}
+use Rattle.judge.proofs.LentLaws.{sorted, accepted-in, known-low, accepted-low}
 use borrow.Author.Needs.{needs}
 use Rattle.judge.proofs.delegate.Statement.{statement}
 use Rattle.judge.proofs.delegate.Tie as tie
 
--- what the lines test
-abbrev missing : tie.Start → Bool
-missing s = unknown (s .args .tables) (s .args .t) || (unknown (s .args .tables) (s .args .receiver) || not (ltb (s .args .q) (size (s .args .t3))))
+-- the lines from one on, and what they give
+abbrev rest : ℕ → tie.Start → Tables → List (Line Refusal)
+rest k s tables = drop k (delegateLines tables (transactionsIn (s .args .transactions .now)) (opsIn (s .args .ops .now) (s .args .n)) (s .args .t) (s .args .receiver) (s .args .q))
 
-abbrev barred : tie.Start → Bool
-barred s = noParty (sortOf (s .args .tables) (s .args .t)) || (noParty (sortOf (s .args .tables) (s .args .receiver)) || eqb (s .args .t) (s .args .receiver))
+abbrev from : ℕ → tie.Start → Tables → Ruling
+from k s tables = ruledBy (rest k s tables) (changeOf (Delegate (s .args .t) (s .args .receiver) (s .args .q)))
 
-abbrev someInactive : tie.Start → Bool
-someInactive s = inactive (s .args .transactions) (s .args .t) || inactive (s .args .transactions) (s .args .receiver)
+abbrev Held : tie.Start → Tables → Type 0
+Held s tables = Holds tables (s .args .sheet .now)
 
-missing-told : (c : tie.After-is-known2)
-    → (not (c .before .is-known .result) || (not (c .is-known2 .result) || not (ltb (c .before .before .before .before .before .args .q) (c .before .before .before .before .size .result)))) ≡ missing (c .before .before .before .before .before)
-missing-told c =
-    ap₂ _||_ (ap not (c .before .is-known .ensures ∙ ap isKnown (c .before .before .before .sort-of .ensures)))
-    (ap₂ _||_ (ap not (c .is-known2 .ensures ∙ ap isKnown (c .before .before .sort-of2 .ensures)))
-    (ap (λ (n : ℕ). not (ltb (c .before .before .before .before .before .args .q) n)) (c .before .before .before .before .size .ensures)))
+-- each line that was passed
+past1 : (c : tie.Else1) (tables : Tables) → Held (c .before .before .before .before) tables → from 0 (c .before .before .before .before) tables ≡ from 1 (c .before .before .before .before) tables
+past1 c tables h =
+    let s = c .before .before .before .before in
+    let a = s .args in
+    ruled-passed (rest 0 s tables) (changeOf (Delegate (s .args .t) (s .args .receiver) (s .args .q))) (sym (ap₂ _||_ (sorted (λ (x : Sort). not (isKnown x)) (a .sheet .now) tables h (a .t) (c .before .before .before .unknown .ensures)) (ap₂ _||_ (sorted (λ (x : Sort). not (isKnown x)) (a .sheet .now) tables h (a .receiver) (c .before .before .unknown2 .ensures)) (accepted-in (a .ops .now) (a .n) (a .q) (c .before .not-accepted .ensures)))) ∙ c .if1 .left)
 
-barred-told : (c : tie.After-no-party2)
-    → (c .before .no-party .result || (c .no-party2 .result || eqb (c .before .before .before .before .before .before .before .before .args .t) (c .before .before .before .before .before .before .before .before .args .receiver))) ≡ barred (c .before .before .before .before .before .before .before .before)
-barred-told c =
-    ap₂ _||_ (c .before .no-party .ensures ∙ ap noParty (c .before .before .before .before .before .before .sort-of .ensures))
-    (ap (λ (b : Bool). b || eqb (c .before .before .before .before .before .before .before .before .args .t) (c .before .before .before .before .before .before .before .before .args .receiver)) (c .no-party2 .ensures ∙ ap noParty (c .before .before .before .before .before .sort-of2 .ensures)))
+past2 : (c : tie.Else2) (tables : Tables) → Held (c .before .before .before .before .before .before .before) tables → from 0 (c .before .before .before .before .before .before .before) tables ≡ from 2 (c .before .before .before .before .before .before .before) tables
+past2 c tables h =
+    let s = c .before .before .before .before .before .before .before in
+    let a = s .args in
+    past1 (c .before .before .before) tables h ∙ ruled-passed (rest 1 s tables) (changeOf (Delegate (s .args .t) (s .args .receiver) (s .args .q))) (sym (ap₂ _||_ (sorted noParty (a .sheet .now) tables h (a .t) (c .before .before .no-party .ensures)) (ap (λ (b : Bool). b || eqb (a .t) (a .receiver)) (sorted noParty (a .sheet .now) tables h (a .receiver) (c .before .no-party2 .ensures)))) ∙ c .if2 .left)
 
-inactive-told : (c : tie.After-is-active2) → (not (c .before .is-active .result) || not (c .is-active2 .result)) ≡ someInactive (c .before .before .before .before .before .before .before .before .before .before .before .before .before)
-inactive-told c =
-    ap₂ _||_ (ap not (c .before .is-active .ensures ∙ ap isActive (c .before .before .before .phase-of .ensures)))
-    (ap not (c .is-active2 .ensures ∙ ap isActive (c .before .before .phase-of2 .ensures)))
+past3 : (c : tie.Else3) (tables : Tables) → Held (c .before .before .before .before .before .before .before .before .before .before) tables → from 0 (c .before .before .before .before .before .before .before .before .before .before) tables ≡ from 3 (c .before .before .before .before .before .before .before .before .before .before) tables
+past3 c tables h =
+    let s = c .before .before .before .before .before .before .before .before .before .before in
+    let a = s .args in
+    past2 (c .before .before .before) tables h ∙ ruled-passed (rest 2 s tables) (changeOf (Delegate (s .args .t) (s .args .receiver) (s .args .q))) (sym (ap₂ _||_ (c .before .before .inactive .ensures) (c .before .inactive2 .ensures)) ∙ c .if3 .left)
 
--- what each test says where it was passed
-known : (c : tie.Else1) → missing (c .before .before .before .before .before .before) ≡ false
-known c = sym (missing-told (c .before)) ∙ c .if1 .left
+past4 : (c : tie.Else4) (tables : Tables) → Held (c .before .before .before .before .before .before .before .before .before .before .before .before) tables → from 0 (c .before .before .before .before .before .before .before .before .before .before .before .before) tables ≡ from 4 (c .before .before .before .before .before .before .before .before .before .before .before .before) tables
+past4 c tables h =
+    let s = c .before .before .before .before .before .before .before .before .before .before .before .before in
+    let a = s .args in
+    past3 (c .before .before) tables h ∙ ruled-passed (rest 3 s tables) (changeOf (Delegate (s .args .t) (s .args .receiver) (s .args .q))) (sym (c .before .not-responsible .ensures (a .n)) ∙ c .if4 .left)
 
-parties : (c : tie.Else2) → barred (c .before .before .before .before .before .before .before .before .before) ≡ false
-parties c = sym (barred-told (c .before)) ∙ c .if2 .left
+past5 : (c : tie.Else5) (tables : Tables) → Held (c .before .before .before .before .before .before .before .before .before .before .before .before .before .before) tables → from 0 (c .before .before .before .before .before .before .before .before .before .before .before .before .before .before) tables ≡ from 5 (c .before .before .before .before .before .before .before .before .before .before .before .before .before .before) tables
+past5 c tables h =
+    let s = c .before .before .before .before .before .before .before .before .before .before .before .before .before .before in
+    let a = s .args in
+    past4 (c .before .before) tables h ∙ ruled-passed (rest 4 s tables) (changeOf (Delegate (s .args .t) (s .args .receiver) (s .args .q))) (sym (c .before .gives-a-ring .ensures tables h) ∙ c .if5 .left)
 
-active : (c : tie.Else3) → someInactive (c .before .before .before .before .before .before .before .before .before .before .before .before .before .before) ≡ false
-active c = sym (inactive-told (c .before)) ∙ c .if3 .left
+-- the receiver is one of the 64, and the operation one of the 256
+known : (c : tie.Else1) → (c .before .before .before .before .args .receiver < mostTransactions) × (c .before .before .before .before .args .q < mostOperations)
+known c =
+    let a = c .before .before .before .before .args in
+    let off = off-or (c .before .before .before .unknown .result) (c .before .before .unknown2 .result || c .before .not-accepted .result) (c .if1 .left) in
+    let rest = off-or (c .before .before .unknown2 .result) (c .before .not-accepted .result) (off .1) in
+    (known-low (a .sheet .now) (a .receiver) (sym (c .before .before .unknown2 .ensures) ∙ rest .0), accepted-low (a .n) (a .q) (sym (c .before .not-accepted .ensures) ∙ rest .1))
 
--- so q is one of the 256
-few : (c : tie.Else3) → c .before .before .before .before .before .before .before .before .before .before .before .before .before .before .args .q < mostOperations
-few c =
-    let a = c .before .before .before .before .before .before .before .before .before .before .before .before .before .before .args in
-    let accepted = operation-known (a .tables) (a .t3) (a .t) (a .receiver) (a .q) (known (c .before .before .before .before .before .before .before .before)) in
-    omega arith
+unknown-requires : tie.Need-unknown-requires
+unknown-requires c κs = search needs
 
--- the array has all its elements
-whole : (c : tie.Start) → length (c .args .transactions) ≡ mostTransactions
-whole c = search needs
+unknown-requires-2 : tie.Need-unknown-requires-2
+unknown-requires-2 c κs = search needs
 
-size-requires : tie.Need-size-requires
-size-requires c κs = search needs
-
-sort-of-requires : tie.Need-sort-of-requires
-sort-of-requires c κs = search needs
-
-sort-of-requires-2 : tie.Need-sort-of-requires-2
-sort-of-requires-2 c κs = search needs
-
-is-known-requires : tie.Need-is-known-requires
-is-known-requires c κs = search needs
-
-is-known-requires-2 : tie.Need-is-known-requires-2
-is-known-requires-2 c κs = search needs
+not-accepted-requires : tie.Need-not-accepted-requires
+not-accepted-requires c κs = search needs
 
 refused-requires : tie.Need-refused-requires
 refused-requires c κs = search needs
 
 returns : tie.Need-returns
-returns c = rw (sym (missing-told (c .before .before)) ∙ c .before .if1 .taken) (c .refused .ensures)
+returns c tables h =
+    let s = c .before .before .before .before .before in
+    let a = s .args in
+    c .refused .ensures ∙ sym (ruled-stopped (rest 0 s tables) (changeOf (Delegate (s .args .t) (s .args .receiver) (s .args .q))) (sym (ap₂ _||_ (sorted (λ (x : Sort). not (isKnown x)) (a .sheet .now) tables h (a .t) (c .before .before .before .before .unknown .ensures)) (ap₂ _||_ (sorted (λ (x : Sort). not (isKnown x)) (a .sheet .now) tables h (a .receiver) (c .before .before .before .unknown2 .ensures)) (accepted-in (a .ops .now) (a .n) (a .q) (c .before .before .not-accepted .ensures)))) ∙ c .before .if1 .taken))
 
 no-party-requires : tie.Need-no-party-requires
 no-party-requires c κs = search needs
@@ -97,96 +102,82 @@ refused-requires-2 : tie.Need-refused-requires-2
 refused-requires-2 c κs = search needs
 
 returns-2 : tie.Need-returns-2
-returns-2 c = rw (known (c .before .before .before .before), sym (barred-told (c .before .before)) ∙ c .before .if2 .taken) (c .refused2 .ensures)
+returns-2 c tables h =
+    let s = c .before .before .before .before .before .before .before .before in
+    let a = s .args in
+    c .refused2 .ensures ∙ sym (past1 (c .before .before .before .before) tables h ∙ ruled-stopped (rest 1 s tables) (changeOf (Delegate (s .args .t) (s .args .receiver) (s .args .q))) (sym (ap₂ _||_ (sorted noParty (a .sheet .now) tables h (a .t) (c .before .before .before .no-party .ensures)) (ap (λ (b : Bool). b || eqb (a .t) (a .receiver)) (sorted noParty (a .sheet .now) tables h (a .receiver) (c .before .before .no-party2 .ensures)))) ∙ c .before .if2 .taken))
 
-phase-of-requires : tie.Need-phase-of-requires
-phase-of-requires c κs = search needs
+inactive-requires : tie.Need-inactive-requires
+inactive-requires c κs = search needs
 
-phase-of-requires-2 : tie.Need-phase-of-requires-2
-phase-of-requires-2 c κs = search needs
-
-is-active-requires : tie.Need-is-active-requires
-is-active-requires c κs = search needs
-
-is-active-requires-2 : tie.Need-is-active-requires-2
-is-active-requires-2 c κs = search needs
+inactive-requires-2 : tie.Need-inactive-requires-2
+inactive-requires-2 c κs = search needs
 
 refused-requires-3 : tie.Need-refused-requires-3
 refused-requires-3 c κs = search needs
 
 returns-3 : tie.Need-returns-3
-returns-3 c = rw (known (c .before .before .before .before .before .before .before .before .before), parties (c .before .before .before .before .before .before), sym (inactive-told (c .before .before)) ∙ c .before .if3 .taken) (c .refused3 .ensures)
+returns-3 c tables h =
+    let s = c .before .before .before .before .before .before .before .before .before .before .before in
+    let a = s .args in
+    c .refused3 .ensures ∙ sym (past2 (c .before .before .before .before) tables h ∙ ruled-stopped (rest 2 s tables) (changeOf (Delegate (s .args .t) (s .args .receiver) (s .args .q))) (sym (ap₂ _||_ (c .before .before .before .inactive .ensures) (c .before .before .inactive2 .ensures)) ∙ c .before .if3 .taken))
 
-mul-op : tie.Need-mul-op
-mul-op c = let small = few c in omega arith
-
-element-copy-out-op : tie.Need-element-copy-out-op
-element-copy-out-op c = few c
-
-cast-responsible : tie.Need-cast-responsible
-cast-responsible c = search needs
+not-responsible-requires : tie.Need-not-responsible-requires
+not-responsible-requires c κs = known (c .before .before .before .before .before .before) .1
 
 refused-requires-4 : tie.Need-refused-requires-4
 refused-requires-4 c κs = search needs
 
 returns-4 : tie.Need-returns-4
-returns-4 c =
-    let a = c .before .before .before .before .before .before .before .before .before .before .before .before .before .before .before .before .before .before .args in
-    rw (known (c .before .before .before .before .before .before .before .before .before .before .before .before), parties (c .before .before .before .before .before .before .before .before .before), active (c .before .before .before .before), ne-eqb (opAt (a .t3) (a .q) .responsible) (a .t) (c .before .if4 .taken)) (c .refused4 .ensures)
+returns-4 c tables h =
+    let s = c .before .before .before .before .before .before .before .before .before .before .before .before .before in
+    let a = s .args in
+    c .refused4 .ensures ∙ sym (past3 (c .before .before .before) tables h ∙ ruled-stopped (rest 3 s tables) (changeOf (Delegate (s .args .t) (s .args .receiver) (s .args .q))) (sym (c .before .before .not-responsible .ensures (a .n)) ∙ c .before .if4 .taken))
 
 cast-to : tie.Need-cast-to
-cast-to c =
-    let a = c .before .before .before .before .before .before .before .before .before .before .before .before .before .before .before .before .before .args in
-    let both = off-or (inactive (a .transactions) (a .t)) (inactive (a .transactions) (a .receiver)) (active (c .before .before .before)) in
-    let small = active-small (a .transactions) (a .receiver) (whole (c .before .before .before .before .before .before .before .before .before .before .before .before .before .before .before .before .before)) (both .1) in
-    omega arith
+cast-to c = omega (arith, known (c .before .before .before .before .before .before .before .before) .0)
 
 gives-a-ring-requires : tie.Need-gives-a-ring-requires
-gives-a-ring-requires c κs = search needs
+gives-a-ring-requires c κs = known (c .before .before .before .before .before .before .before .before) .1
 
 refused-requires-5 : tie.Need-refused-requires-5
 refused-requires-5 c κs = search needs
 
 returns-5 : tie.Need-returns-5
-returns-5 c =
-    let a = c .before .before .before .before .before .before .before .before .before .before .before .before .before .before .before .before .before .before .before .before .args in
-    let ring = sym (c .before .before .gives-a-ring .ensures) ∙ c .before .if5 .taken in
-    rw (known (c .before .before .before .before .before .before .before .before .before .before .before .before .before .before), parties (c .before .before .before .before .before .before .before .before .before .before .before), active (c .before .before .before .before .before .before), eq-eqb (opAt (a .t3) (a .q) .responsible) (a .t) (c .before .before .before .if4 .left), ring) (c .refused5 .ensures)
+returns-5 c tables h =
+    let s = c .before .before .before .before .before .before .before .before .before .before .before .before .before .before .before in
+    let a = s .args in
+    c .refused5 .ensures ∙ sym (past4 (c .before .before .before) tables h ∙ ruled-stopped (rest 4 s tables) (changeOf (Delegate (s .args .t) (s .args .receiver) (s .args .q))) (sym (c .before .before .gives-a-ring .ensures tables h) ∙ c .before .if5 .taken))
+
+accepted-requires : tie.Need-accepted-requires
+accepted-requires c κs = search needs
 
 returns-6 : tie.Need-returns-6
-returns-6 c =
-    let a = c .before .before .before .before .before .before .before .before .before .before .before .before .before .before .before .before .before .before .before .args in
-    let ring = sym (c .before .gives-a-ring .ensures) ∙ c .if5 .left in
-    rw (known (c .before .before .before .before .before .before .before .before .before .before .before .before .before), parties (c .before .before .before .before .before .before .before .before .before .before), active (c .before .before .before .before .before), eq-eqb (opAt (a .t3) (a .q) .responsible) (a .t) (c .before .before .if4 .left), ring)
+returns-6 c tables h = c .accepted .ensures ∙ sym (past5 (c .before) tables h)
 
 pub delegate-spec : {M : Type 1} → statement M
 delegate-spec =
     tie.close
     (tie.spec
-    size-requires
-    sort-of-requires
-    sort-of-requires-2
-    is-known-requires
-    is-known-requires-2
+    unknown-requires
+    unknown-requires-2
+    not-accepted-requires
     refused-requires
     returns
     no-party-requires
     no-party-requires-2
     refused-requires-2
     returns-2
-    phase-of-requires
-    phase-of-requires-2
-    is-active-requires
-    is-active-requires-2
+    inactive-requires
+    inactive-requires-2
     refused-requires-3
     returns-3
-    mul-op
-    element-copy-out-op
-    cast-responsible
+    not-responsible-requires
     refused-requires-4
     returns-4
     cast-to
     gives-a-ring-requires
     refused-requires-5
     returns-5
+    accepted-requires
     returns-6)

@@ -1,68 +1,103 @@
 use native.Mathlib.Omega.{arith}
-use Prim.Native.Nat.{ℕ}
-use lib.Dec.{ltb}
-use mathlib.Core.Path.{_≡_, sym, ap, ap₂, _∙_}
-use mathlib.Core.Bool.{Bool, false, not, _&&_, _||_}
-use lib.ListN.{length}
+use lib.Dec.{leb}
 use borrow.Author.Tests.{le-leb, lt-leb}
-use Rattle.laws.proofs.Bools.{told, told-not}
-use Rattle.terms.specs.Limits.{mostTransactions}
+use Rattle.laws.proofs.Bools.{off-or}
+use Rattle.terms.specs.Limits.{mostTransactions, mostObjects}
 use Rattle.ties.specs.Operations.{mostOperations}
 use Rattle.ties.specs.Ties.{mustWait}
-use Rattle.tables.specs.Sorts.{isKnown, isSaga, isUndo, sortOf}
+use Rattle.cells.proofs.CellLaws.{count-in}
+use Prim.Native.Nat.{ℕ, _<_}
+use mathlib.Core.Path.{_≡_, sym, ap, ap₂, _∙_}
+use mathlib.Core.Bool.{not, _&&_, _||_}
+use mathlib.Core.List.{List}
+use lib.ListN.{drop}
+use Rattle.laws.specs.Lines.{Line}
+use Rattle.terms.specs.declared.Refusal.{Refusal}
 use Rattle.tables.specs.declared.Sort.{Sort}
-use Rattle.judge.specs.States.{isActive}
-use Rattle.judge.specs.Judge.{unknown, unknownObject, inactive}
-use Rattle.judge.proofs.StateLaws.{active-small}
-use Rattle.judge.proofs.RuleLaws.{object-small}
+use Rattle.tables.specs.declared.Tables.{Tables}
+use Rattle.sheet.specs.Sheet.{Holds}
+use Rattle.rules.specs.Lent.{transactionsIn}
+use Rattle.cells.specs.Cells.{opsIn}
+use Rattle.tables.specs.Sorts.{isKnown, isSaga, isUndo}
+use Rattle.terms.specs.declared.Event.the-variants.{Operation as Invoke}
+use Rattle.judge.specs.Judge.{operationLines, changeOf, ruledBy}
+use Rattle.judge.specs.declared.Ruling.{Ruling}
+use Rattle.judge.proofs.RuleLaws.{ruled-passed, ruled-stopped}
+use Rattle.judge.proofs.LentLaws.{sorted, objected, known-low, object-low}
 use borrow.Author.Needs.{needs}
 use Rattle.judge.proofs.operation.Statement.{statement}
 use Rattle.judge.proofs.operation.Tie as tie
 
--- what the lines test
-abbrev missing : tie.Start → Bool
-missing s = unknown (s .args .tables) (s .args .t) || unknownObject (s .args .tables) (s .args .object)
+-- the lines from one on, and what they give
+abbrev rest : ℕ → tie.Start → Tables → List (Line Refusal)
+rest k s tables = drop k (operationLines tables (transactionsIn (s .args .transactions .now)) (opsIn (s .args .ops .now) (s .args .n)) (s .args .t) (s .args .object) (s .args .mark))
 
-abbrev waits : tie.Start → Sort → Bool
-waits s x = isUndo x && mustWait (s .args .ops) (s .args .t) (s .args .object) (s .args .mark)
+abbrev from : ℕ → tie.Start → Tables → Ruling
+from k s tables = ruledBy (rest k s tables) (changeOf (Invoke (s .args .t) (s .args .object) (s .args .mark)))
 
-missing-told : (c : tie.After-is-known)
-    → (not (c .is-known .result) || not (ltb (c .before .before .before .args .object) (c .before .before .object-count .result))) ≡ missing (c .before .before .before)
-missing-told c =
-    ap₂ _||_ (ap not (c .is-known .ensures ∙ ap isKnown (c .before .sort-of .ensures)))
-    (ap (λ (n : ℕ). not (ltb (c .before .before .before .args .object) n)) (c .before .before .object-count .ensures))
+abbrev Held : tie.Start → Tables → Type 0
+Held s tables = Holds tables (s .args .sheet .now)
 
--- what each test says where it was passed
-known : (c : tie.Else1) → missing (c .before .before .before .before) ≡ false
-known c = sym (missing-told (c .before)) ∙ c .if1 .left
+-- each line that was passed
+past1 : (c : tie.Else1) (tables : Tables) → Held (c .before .before .before) tables → from 0 (c .before .before .before) tables ≡ from 1 (c .before .before .before) tables
+past1 c tables h =
+    let s = c .before .before .before in
+    let a = s .args in
+    ruled-passed (rest 0 s tables) (changeOf (Invoke (s .args .t) (s .args .object) (s .args .mark))) (sym (ap₂ _||_ (sorted (λ (x : Sort). not (isKnown x)) (a .sheet .now) tables h (a .t) (c .before .before .unknown .ensures)) (objected (a .sheet .now) tables h (a .object) (c .before .unknown-object .ensures))) ∙ c .if1 .left)
 
-no-saga : (c : tie.Else2) → let a = c .before .before .before .before .before .before .args in isSaga (sortOf (a .tables) (a .t)) ≡ false
-no-saga c = told isSaga (c .before .is-saga .ensures) (c .before .before .before .before .sort-of .ensures) (c .if2 .left)
+past2 : (c : tie.Else2) (tables : Tables) → Held (c .before .before .before .before .before) tables → from 0 (c .before .before .before .before .before) tables ≡ from 2 (c .before .before .before .before .before) tables
+past2 c tables h =
+    let s = c .before .before .before .before .before in
+    let a = s .args in
+    past1 (c .before .before) tables h ∙ ruled-passed (rest 1 s tables) (changeOf (Invoke (s .args .t) (s .args .object) (s .args .mark))) (sym (sorted isSaga (a .sheet .now) tables h (a .t) (c .before .is-saga .ensures)) ∙ c .if2 .left)
 
-active : (c : tie.Else3) → let a = c .before .before .before .before .before .before .before .before .before .args in inactive (a .transactions) (a .t) ≡ false
-active c = told-not isActive (c .before .is-active .ensures) (c .before .before .phase-of .ensures) (c .if3 .left)
+past3 : (c : tie.Else3) (tables : Tables) → Held (c .before .before .before .before .before .before .before) tables → from 0 (c .before .before .before .before .before .before .before) tables ≡ from 3 (c .before .before .before .before .before .before .before) tables
+past3 c tables h =
+    let s = c .before .before .before .before .before .before .before in
+    let a = s .args in
+    past2 (c .before .before) tables h ∙ ruled-passed (rest 2 s tables) (changeOf (Invoke (s .args .t) (s .args .object) (s .args .mark))) (sym (c .before .inactive .ensures) ∙ c .if3 .left)
 
-no-wait : (c : tie.Else4) → let s = c .before .before .before .before .before .before .before .before .before .before .before in waits s (sortOf (s .args .tables) (s .args .t)) ≡ false
-no-wait c = told (waits (c .before .before .before .before .before .before .before .before .before .before .before)) (c .before .undo-waits .ensures) (c .before .before .before .before .before .before .before .before .before .sort-of .ensures) (c .if4 .left)
+past4 : (c : tie.Else4) (tables : Tables) → Held (c .before .before .before .before .before .before .before .before .before) tables → from 0 (c .before .before .before .before .before .before .before .before .before) tables ≡ from 4 (c .before .before .before .before .before .before .before .before .before) tables
+past4 c tables h =
+    let s = c .before .before .before .before .before .before .before .before .before in
+    let a = s .args in
+    past3 (c .before .before) tables h ∙ ruled-passed (rest 3 s tables) (changeOf (Invoke (s .args .t) (s .args .object) (s .args .mark))) (sym (sorted (λ (x : Sort). isUndo x && mustWait (opsIn (a .ops .now) (a .n)) (a .t) (a .object) (a .mark)) (a .sheet .now) tables h (a .t) (c .before .must-wait .ensures)) ∙ c .if4 .left)
 
--- the array has all its elements
-whole : (c : tie.Start) → length (c .args .transactions) ≡ mostTransactions
-whole c = search needs
+past5 : (c : tie.Else5) (tables : Tables) → Held (c .before .before .before .before .before .before .before .before .before .before .before) tables → from 0 (c .before .before .before .before .before .before .before .before .before .before .before) tables ≡ from 5 (c .before .before .before .before .before .before .before .before .before .before .before) tables
+past5 c tables h =
+    let s = c .before .before .before .before .before .before .before .before .before .before .before in
+    let a = s .args in
+    past4 (c .before .before) tables h ∙ ruled-passed (rest 4 s tables) (changeOf (Invoke (s .args .t) (s .args .object) (s .args .mark))) (sym (c .before .rings-an-undo .ensures tables h) ∙ c .if5 .left)
 
-object-count-requires : tie.Need-object-count-requires
-object-count-requires c κs = search needs
+past6 : (c : tie.Else6) (tables : Tables) → Held (c .before .before .before .before .before .before .before .before .before .before .before .before) tables → from 0 (c .before .before .before .before .before .before .before .before .before .before .before .before) tables ≡ from 6 (c .before .before .before .before .before .before .before .before .before .before .before .before) tables
+past6 c tables h =
+    let s = c .before .before .before .before .before .before .before .before .before .before .before .before in
+    let a = s .args in
+    past5 (c .before) tables h ∙ ruled-passed (rest 5 s tables) (changeOf (Invoke (s .args .t) (s .args .object) (s .args .mark))) (ap (leb mostOperations) (count-in (a .ops .now) (a .n)) ∙ lt-leb mostOperations (a .n) (c .if6 .left))
 
-sort-of-requires : tie.Need-sort-of-requires
-sort-of-requires c κs = search needs
+-- the numbers of the new operation are within the limits
+known : (c : tie.Else1) → (c .before .before .before .args .t < mostTransactions) × (c .before .before .before .args .object < mostObjects)
+known c =
+    let a = c .before .before .before .args in
+    let off = off-or (c .before .before .unknown .result) (c .before .unknown-object .result) (c .if1 .left) in (
+      known-low (a .sheet .now) (a .t) (sym (c .before .before .unknown .ensures) ∙ off .0),
+      object-low (a .sheet .now) (a .object) (sym (c .before .unknown-object .ensures) ∙ off .1),
+    )
 
-is-known-requires : tie.Need-is-known-requires
-is-known-requires c κs = search needs
+unknown-requires : tie.Need-unknown-requires
+unknown-requires c κs = search needs
+
+unknown-object-requires : tie.Need-unknown-object-requires
+unknown-object-requires c κs = search needs
 
 refused-requires : tie.Need-refused-requires
 refused-requires c κs = search needs
 
 returns : tie.Need-returns
-returns c = rw (sym (missing-told (c .before .before)) ∙ c .before .if1 .taken) (c .refused .ensures)
+returns c tables h =
+    let s = c .before .before .before .before in
+    let a = s .args in
+    c .refused .ensures ∙ sym (ruled-stopped (rest 0 s tables) (changeOf (Invoke (s .args .t) (s .args .object) (s .args .mark))) (sym (ap₂ _||_ (sorted (λ (x : Sort). not (isKnown x)) (a .sheet .now) tables h (a .t) (c .before .before .before .unknown .ensures)) (objected (a .sheet .now) tables h (a .object) (c .before .before .unknown-object .ensures))) ∙ c .before .if1 .taken))
 
 is-saga-requires : tie.Need-is-saga-requires
 is-saga-requires c κs = search needs
@@ -71,45 +106,40 @@ refused-requires-2 : tie.Need-refused-requires-2
 refused-requires-2 c κs = search needs
 
 returns-2 : tie.Need-returns-2
-returns-2 c = rw (known (c .before .before .before), told isSaga (c .before .before .is-saga .ensures) (c .before .before .before .before .before .sort-of .ensures) (c .before .if2 .taken)) (c .refused2 .ensures)
+returns-2 c tables h =
+    let s = c .before .before .before .before .before .before in
+    let a = s .args in
+    c .refused2 .ensures ∙ sym (past1 (c .before .before .before) tables h ∙ ruled-stopped (rest 1 s tables) (changeOf (Invoke (s .args .t) (s .args .object) (s .args .mark))) (sym (sorted isSaga (a .sheet .now) tables h (a .t) (c .before .before .is-saga .ensures)) ∙ c .before .if2 .taken))
 
-phase-of-requires : tie.Need-phase-of-requires
-phase-of-requires c κs = search needs
-
-is-active-requires : tie.Need-is-active-requires
-is-active-requires c κs = search needs
+inactive-requires : tie.Need-inactive-requires
+inactive-requires c κs = search needs
 
 refused-requires-3 : tie.Need-refused-requires-3
 refused-requires-3 c κs = search needs
 
 returns-3 : tie.Need-returns-3
-returns-3 c =
-    rw (known (c .before .before .before .before .before .before), no-saga (c .before .before .before .before), told-not isActive (c .before .before .is-active .ensures) (c .before .before .before .phase-of .ensures) (c .before .if3 .taken))
-    (c .refused3 .ensures)
+returns-3 c tables h =
+    let s = c .before .before .before .before .before .before .before .before in
+    let a = s .args in
+    c .refused3 .ensures ∙ sym (past2 (c .before .before .before) tables h ∙ ruled-stopped (rest 2 s tables) (changeOf (Invoke (s .args .t) (s .args .object) (s .args .mark))) (sym (c .before .before .inactive .ensures) ∙ c .before .if3 .taken))
 
-undo-waits-requires : tie.Need-undo-waits-requires
-undo-waits-requires c κs = search needs
+must-wait-requires : tie.Need-must-wait-requires
+must-wait-requires c κs = search needs
 
 refused-requires-4 : tie.Need-refused-requires-4
 refused-requires-4 c κs = search needs
 
 returns-4 : tie.Need-returns-4
-returns-4 c =
-    let wait = told (waits (c .before .before .before .before .before .before .before .before .before .before .before .before)) (c .before .before .undo-waits .ensures) (c .before .before .before .before .before .before .before .before .before .before .sort-of .ensures) (c .before .if4 .taken) in
-    rw (known (c .before .before .before .before .before .before .before .before), no-saga (c .before .before .before .before .before .before), active (c .before .before .before), wait) (c .refused4 .ensures)
+returns-4 c tables h =
+    let s = c .before .before .before .before .before .before .before .before .before .before in
+    let a = s .args in
+    c .refused4 .ensures ∙ sym (past3 (c .before .before .before) tables h ∙ ruled-stopped (rest 3 s tables) (changeOf (Invoke (s .args .t) (s .args .object) (s .args .mark))) (sym (sorted (λ (x : Sort). isUndo x && mustWait (opsIn (a .ops .now) (a .n)) (a .t) (a .object) (a .mark)) (a .sheet .now) tables h (a .t) (c .before .before .must-wait .ensures)) ∙ c .before .if4 .taken))
 
--- the numbers of the new operation
-cast-on : tie.Need-cast-on
-cast-on c =
-    let a = c .before .before .before .before .before .before .before .before .before .before .before .args in
-    let small = object-small (a .tables) (a .t) (a .object) (known (c .before .before .before .before .before .before .before)) in
-    omega arith
+cast-t19 : tie.Need-cast-t19
+cast-t19 c = omega (arith, known (c .before .before .before .before .before .before) .1)
 
-cast-by : tie.Need-cast-by
-cast-by c =
-    let a = c .before .before .before .before .before .before .before .before .before .before .before .args in
-    let small = active-small (a .transactions) (a .t) (whole (c .before .before .before .before .before .before .before .before .before .before .before)) (active (c .before .before)) in
-    omega arith
+cast-t20 : tie.Need-cast-t20
+cast-t20 c = omega (arith, known (c .before .before .before .before .before .before) .0)
 
 rings-an-undo-requires : tie.Need-rings-an-undo-requires
 rings-an-undo-requires c κs = search needs
@@ -118,49 +148,49 @@ refused-requires-5 : tie.Need-refused-requires-5
 refused-requires-5 c κs = search needs
 
 returns-5 : tie.Need-returns-5
-returns-5 c =
-    let ring = sym (c .before .before .rings-an-undo .ensures) ∙ c .before .if5 .taken in
-    rw (known (c .before .before .before .before .before .before .before .before .before .before), no-saga (c .before .before .before .before .before .before .before .before), active (c .before .before .before .before .before), no-wait (c .before .before .before), ring) (c .refused5 .ensures)
+returns-5 c tables h =
+    let s = c .before .before .before .before .before .before .before .before .before .before .before .before in
+    let a = s .args in
+    c .refused5 .ensures ∙ sym (past4 (c .before .before .before) tables h ∙ ruled-stopped (rest 4 s tables) (changeOf (Invoke (s .args .t) (s .args .object) (s .args .mark))) (sym (c .before .before .rings-an-undo .ensures tables h) ∙ c .before .if5 .taken))
 
 refused-requires-6 : tie.Need-refused-requires-6
 refused-requires-6 c κs = search needs
 
 returns-6 : tie.Need-returns-6
-returns-6 c =
-    let ring = sym (c .before .before .before .rings-an-undo .ensures) ∙ c .before .before .if5 .left in
-    let full = le-leb mostOperations (c .before .before .before .before .before .before .before .before .before .before .before .before .before .before .before .args .ops .count) (c .before .if6 .taken) in
-    rw (known (c .before .before .before .before .before .before .before .before .before .before .before), no-saga (c .before .before .before .before .before .before .before .before .before), active (c .before .before .before .before .before .before), no-wait (c .before .before .before .before), ring, full) (c .refused6 .ensures)
+returns-6 c tables h =
+    let s = c .before .before .before .before .before .before .before .before .before .before .before .before .before in
+    let a = s .args in
+    c .refused6 .ensures ∙ sym (past5 (c .before .before) tables h ∙ ruled-stopped (rest 5 s tables) (changeOf (Invoke (s .args .t) (s .args .object) (s .args .mark))) (ap (leb mostOperations) (count-in (a .ops .now) (a .n)) ∙ le-leb mostOperations (a .n) (c .before .if6 .taken)))
+
+accepted-requires : tie.Need-accepted-requires
+accepted-requires c κs = search needs
 
 returns-7 : tie.Need-returns-7
-returns-7 c =
-    let ring = sym (c .before .before .rings-an-undo .ensures) ∙ c .before .if5 .left in
-    let room = lt-leb mostOperations (c .before .before .before .before .before .before .before .before .before .before .before .before .before .before .args .ops .count) (c .if6 .left) in
-    rw (known (c .before .before .before .before .before .before .before .before .before .before), no-saga (c .before .before .before .before .before .before .before .before), active (c .before .before .before .before .before), no-wait (c .before .before .before), ring, room)
+returns-7 c tables h = c .accepted .ensures ∙ sym (past6 (c .before) tables h)
 
 pub operation-spec : {M : Type 1} → statement M
 operation-spec =
     tie.close
     (tie.spec
-    object-count-requires
-    sort-of-requires
-    is-known-requires
+    unknown-requires
+    unknown-object-requires
     refused-requires
     returns
     is-saga-requires
     refused-requires-2
     returns-2
-    phase-of-requires
-    is-active-requires
+    inactive-requires
     refused-requires-3
     returns-3
-    undo-waits-requires
+    must-wait-requires
     refused-requires-4
     returns-4
-    cast-on
-    cast-by
+    cast-t19
+    cast-t20
     rings-an-undo-requires
     refused-requires-5
     returns-5
     refused-requires-6
     returns-6
+    accepted-requires
     returns-7)

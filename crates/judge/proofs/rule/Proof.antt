@@ -1,5 +1,6 @@
 use mathlib.Core.Path.{sym, ap, _∙_}
 use Rattle.judge.specs.Judge.{rulingOf}
+use Rattle.judge.specs.Lent.{stateIn}
 use borrow.Author.Needs.{needs}
 use Rattle.judge.proofs.rule.Statement.{statement}
 use Rattle.judge.proofs.rule.Tie as tie
@@ -48,31 +49,45 @@ abort-one-requires c κs = search needs
 
 returns : tie.Need-returns
 unfolding rulingOf
-returns c = c .begin .ensures ∙ ap (rulingOf (c .before .before .before .before .before .before .args .tables) (c .before .before .before .before .before .before .args .state)) (sym (c .before .before .event .given .1))
+returns c tables h =
+    let a = c .before .before .before .before .args in
+    c .begin .ensures tables h ∙ ap (rulingOf tables (stateIn (a .transactions .now) (a .ops .now) (a .n))) (sym (c .before .before .event .given .1))
 
 returns-2 : tie.Need-returns-2
 unfolding rulingOf
-returns-2 c = c .commit .ensures ∙ ap (rulingOf (c .before .before .before .before .before .before .args .tables) (c .before .before .before .before .before .before .args .state)) (sym (c .before .before .event2 .given .1))
+returns-2 c tables h =
+    let a = c .before .before .before .before .args in
+    c .commit .ensures tables h ∙ ap (rulingOf tables (stateIn (a .transactions .now) (a .ops .now) (a .n))) (sym (c .before .before .event2 .given .1))
 
 returns-3 : tie.Need-returns-3
 unfolding rulingOf
-returns-3 c = c .abort .ensures ∙ ap (rulingOf (c .before .before .before .before .before .before .args .tables) (c .before .before .before .before .before .before .args .state)) (sym (c .before .before .event3 .given .1))
+returns-3 c tables h =
+    let a = c .before .before .before .before .args in
+    c .abort .ensures tables h ∙ ap (rulingOf tables (stateIn (a .transactions .now) (a .ops .now) (a .n))) (sym (c .before .before .event3 .given .1))
 
 returns-4 : tie.Need-returns-4
 unfolding rulingOf
-returns-4 c = c .operation .ensures ∙ ap (rulingOf (c .before .before .before .before .before .before .args .tables) (c .before .before .before .before .before .before .args .state)) (sym (c .before .before .event4 .given .1))
+returns-4 c tables h =
+    let a = c .before .before .before .before .args in
+    c .operation .ensures tables h ∙ ap (rulingOf tables (stateIn (a .transactions .now) (a .ops .now) (a .n))) (sym (c .before .before .event4 .given .1))
 
 returns-5 : tie.Need-returns-5
 unfolding rulingOf
-returns-5 c = c .delegate .ensures ∙ ap (rulingOf (c .before .before .before .before .before .before .args .tables) (c .before .before .before .before .before .before .args .state)) (sym (c .before .before .event5 .given .1))
+returns-5 c tables h =
+    let a = c .before .before .before .before .args in
+    c .delegate .ensures tables h ∙ ap (rulingOf tables (stateIn (a .transactions .now) (a .ops .now) (a .n))) (sym (c .before .before .event5 .given .1))
 
 returns-6 : tie.Need-returns-6
 unfolding rulingOf
-returns-6 c = c .commit-one .ensures ∙ ap (rulingOf (c .before .before .before .before .before .before .args .tables) (c .before .before .before .before .before .before .args .state)) (sym (c .before .before .event6 .given .1))
+returns-6 c tables h =
+    let a = c .before .before .before .before .args in
+    c .commit-one .ensures tables h ∙ ap (rulingOf tables (stateIn (a .transactions .now) (a .ops .now) (a .n))) (sym (c .before .before .event6 .given .1))
 
 returns-7 : tie.Need-returns-7
 unfolding rulingOf
-returns-7 c = c .abort-one .ensures ∙ ap (rulingOf (c .before .before .before .before .before .before .args .tables) (c .before .before .before .before .before .before .args .state)) (sym (c .before .before .event7 .given .1))
+returns-7 c tables h =
+    let a = c .before .before .before .before .args in
+    c .abort-one .ensures tables h ∙ ap (rulingOf tables (stateIn (a .transactions .now) (a .ops .now) (a .n))) (sym (c .before .before .event7 .given .1))
 
 pub rule-spec : {M : Type 1} → statement M
 rule-spec =

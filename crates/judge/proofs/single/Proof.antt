@@ -1,117 +1,139 @@
-use native.Mathlib.Omega.{arith}
+use Rattle.laws.proofs.Bools.{off-or}
+use Rattle.terms.specs.declared.Verdict.{Verdict}
+use Rattle.terms.specs.declared.Verdict.the-variants.{Accepted, Refused}
+use Rattle.ties.specs.Operations.{mostOperations}
 use Prim.Native.Nat.{ℕ, _<_}
-use mathlib.Core.Path.{_≡_, sym, ap, ap₂, _∙_}
-use mathlib.Core.Bool.{Bool, false, not, _||_}
-use lib.Dec.{ltb}
-use borrow.Author.Tests.{eq-eqb, ne-eqb}
-use Rattle.laws.proofs.Bools.{told-not}
-use Rattle.ties.specs.Operations.{mostOperations, opAt, size}
-use Rattle.tables.specs.Sorts.{isKnown, isPlain, sortOf}
-use Rattle.judge.specs.States.{isActive}
-use Rattle.judge.specs.Judge.{unknown, inactive}
-use Rattle.judge.proofs.RuleLaws.{single-known}
+use mathlib.Core.Path.{_≡_, sym, ap₂, _∙_}
+use mathlib.Core.Bool.{not, _||_}
+use mathlib.Core.List.{List}
+use lib.ListN.{drop}
+use Rattle.laws.specs.Lines.{Line}
+use Rattle.terms.specs.declared.Refusal.{Refusal}
+use Rattle.tables.specs.declared.Sort.{Sort}
+use Rattle.tables.specs.declared.Tables.{Tables}
+use Rattle.sheet.specs.Sheet.{Holds}
+use Rattle.rules.specs.Lent.{transactionsIn}
+use Rattle.cells.specs.Cells.{opsIn}
+use Rattle.tables.specs.Sorts.{isKnown, isPlain}
+use Rattle.judge.specs.Judge.{singleLines, verdictBy}
+use Rattle.judge.proofs.LentLaws.{sorted, accepted-in, accepted-low}
+use Rattle.laws.proofs.LineLaws.{passed, stopped}
 use borrow.Author.Needs.{needs}
 use Rattle.judge.proofs.single.Statement.{statement}
 use Rattle.judge.proofs.single.Tie as tie
 
--- what the first line tests
-abbrev missing : tie.Start → Bool
-missing s = unknown (s .args .tables) (s .args .t) || not (ltb (s .args .q) (size (s .args .t3)))
+-- the lines from one on, and what they give
+abbrev rest : ℕ → tie.Start → Tables → List (Line Refusal)
+rest k s tables = drop k (singleLines tables (transactionsIn (s .args .transactions .now)) (opsIn (s .args .ops .now) (s .args .n)) (s .args .t) (s .args .q))
 
-missing-told : (c : tie.After-is-known)
-    → (not (c .is-known .result) || not (ltb (c .before .before .before .args .q) (c .before .before .size .result))) ≡ missing (c .before .before .before)
-missing-told c =
-    ap₂ _||_ (ap not (c .is-known .ensures ∙ ap isKnown (c .before .sort-of .ensures)))
-    (ap (λ (n : ℕ). not (ltb (c .before .before .before .args .q) n)) (c .before .before .size .ensures))
+abbrev from : ℕ → tie.Start → Tables → Verdict
+from k s tables = verdictBy (rest k s tables)
 
--- what each test says where it was passed
-known : (c : tie.Else1) → missing (c .before .before .before .before) ≡ false
-known c = sym (missing-told (c .before)) ∙ c .if1 .left
+abbrev Held : tie.Start → Tables → Type 0
+Held s tables = Holds tables (s .args .sheet .now)
 
-plain : (c : tie.Else2) → let a = c .before .before .before .before .before .before .args in not (isPlain (sortOf (a .tables) (a .t))) ≡ false
-plain c = told-not isPlain (c .before .is-plain .ensures) (c .before .before .before .before .sort-of .ensures) (c .if2 .left)
+-- each line that was passed
+past1 : (c : tie.Else1) (tables : Tables) → Held (c .before .before .before) tables → from 0 (c .before .before .before) tables ≡ from 1 (c .before .before .before) tables
+past1 c tables h =
+    let s = c .before .before .before in
+    let a = s .args in
+    passed Refused Accepted (rest 0 s tables) (sym (ap₂ _||_ (sorted (λ (x : Sort). not (isKnown x)) (a .sheet .now) tables h (a .t) (c .before .before .unknown .ensures)) (accepted-in (a .ops .now) (a .n) (a .q) (c .before .not-accepted .ensures))) ∙ c .if1 .left)
 
-active : (c : tie.Else3) → let a = c .before .before .before .before .before .before .before .before .before .args in inactive (a .transactions) (a .t) ≡ false
-active c = told-not isActive (c .before .is-active .ensures) (c .before .before .phase-of .ensures) (c .if3 .left)
+past2 : (c : tie.Else2) (tables : Tables) → Held (c .before .before .before .before .before) tables → from 0 (c .before .before .before .before .before) tables ≡ from 2 (c .before .before .before .before .before) tables
+past2 c tables h =
+    let s = c .before .before .before .before .before in
+    let a = s .args in
+    past1 (c .before .before) tables h ∙ passed Refused Accepted (rest 1 s tables) (sym (sorted (λ (x : Sort). not (isPlain x)) (a .sheet .now) tables h (a .t) (c .before .not-plain .ensures)) ∙ c .if2 .left)
 
--- so q is one of the 256
-few : (c : tie.Else3) → c .before .before .before .before .before .before .before .before .before .args .q < mostOperations
-few c =
-    let a = c .before .before .before .before .before .before .before .before .before .args in
-    let accepted = single-known (a .tables) (a .t3) (a .t) (a .q) (known (c .before .before .before .before .before)) in
-    omega arith
+past3 : (c : tie.Else3) (tables : Tables) → Held (c .before .before .before .before .before .before .before) tables → from 0 (c .before .before .before .before .before .before .before) tables ≡ from 3 (c .before .before .before .before .before .before .before) tables
+past3 c tables h =
+    let s = c .before .before .before .before .before .before .before in
+    let a = s .args in
+    past2 (c .before .before) tables h ∙ passed Refused Accepted (rest 2 s tables) (sym (c .before .inactive .ensures) ∙ c .if3 .left)
 
-size-requires : tie.Need-size-requires
-size-requires c κs = search needs
+past4 : (c : tie.Else4) (tables : Tables) → Held (c .before .before .before .before .before .before .before .before .before) tables → from 0 (c .before .before .before .before .before .before .before .before .before) tables ≡ from 4 (c .before .before .before .before .before .before .before .before .before) tables
+past4 c tables h =
+    let s = c .before .before .before .before .before .before .before .before .before in
+    let a = s .args in
+    past3 (c .before .before) tables h ∙ passed Refused Accepted (rest 3 s tables) (sym (c .before .not-responsible .ensures (a .n)) ∙ c .if4 .left)
 
-sort-of-requires : tie.Need-sort-of-requires
-sort-of-requires c κs = search needs
+past5 : (c : tie.Else5) (tables : Tables) → Held (c .before .before .before .before .before .before .before .before .before .before .before) tables → from 0 (c .before .before .before .before .before .before .before .before .before .before .before) tables ≡ from 5 (c .before .before .before .before .before .before .before .before .before .before .before) tables
+past5 c tables h =
+    let s = c .before .before .before .before .before .before .before .before .before .before .before in
+    let a = s .args in
+    past4 (c .before .before) tables h ∙ passed Refused Accepted (rest 4 s tables) (sym (c .before .already-ended .ensures (a .n)) ∙ c .if5 .left)
 
-is-known-requires : tie.Need-is-known-requires
-is-known-requires c κs = search needs
+-- the operation is one of the 256
+known : (c : tie.Else1) → c .before .before .before .args .q < mostOperations
+known c =
+    let a = c .before .before .before .args in
+    let off = off-or (c .before .before .unknown .result) (c .before .not-accepted .result) (c .if1 .left) in
+    accepted-low (a .n) (a .q) (sym (c .before .not-accepted .ensures) ∙ off .1)
+
+unknown-requires : tie.Need-unknown-requires
+unknown-requires c κs = search needs
+
+not-accepted-requires : tie.Need-not-accepted-requires
+not-accepted-requires c κs = search needs
 
 returns : tie.Need-returns
-returns c = rw (sym (missing-told (c .before)) ∙ c .if1 .taken)
+returns c tables h =
+    let s = c .before .before .before in
+    let a = s .args in
+    sym (stopped Refused Accepted (rest 0 s tables) (sym (ap₂ _||_ (sorted (λ (x : Sort). not (isKnown x)) (a .sheet .now) tables h (a .t) (c .before .before .unknown .ensures)) (accepted-in (a .ops .now) (a .n) (a .q) (c .before .not-accepted .ensures))) ∙ c .if1 .taken))
 
-is-plain-requires : tie.Need-is-plain-requires
-is-plain-requires c κs = search needs
+not-plain-requires : tie.Need-not-plain-requires
+not-plain-requires c κs = search needs
 
 returns-2 : tie.Need-returns-2
-returns-2 c = rw (known (c .before .before), told-not isPlain (c .before .is-plain .ensures) (c .before .before .before .before .sort-of .ensures) (c .if2 .taken))
+returns-2 c tables h =
+    let s = c .before .before .before .before .before in
+    let a = s .args in
+    sym (past1 (c .before .before) tables h ∙ stopped Refused Accepted (rest 1 s tables) (sym (sorted (λ (x : Sort). not (isPlain x)) (a .sheet .now) tables h (a .t) (c .before .not-plain .ensures)) ∙ c .if2 .taken))
 
-phase-of-requires : tie.Need-phase-of-requires
-phase-of-requires c κs = search needs
-
-is-active-requires : tie.Need-is-active-requires
-is-active-requires c κs = search needs
+inactive-requires : tie.Need-inactive-requires
+inactive-requires c κs = search needs
 
 returns-3 : tie.Need-returns-3
-returns-3 c = rw (known (c .before .before .before .before .before), plain (c .before .before .before), told-not isActive (c .before .is-active .ensures) (c .before .before .phase-of .ensures) (c .if3 .taken))
+returns-3 c tables h =
+    let s = c .before .before .before .before .before .before .before in
+    let a = s .args in
+    sym (past2 (c .before .before) tables h ∙ stopped Refused Accepted (rest 2 s tables) (sym (c .before .inactive .ensures) ∙ c .if3 .taken))
 
-mul-op : tie.Need-mul-op
-mul-op c = let small = few c in omega arith
-
-element-copy-out-op : tie.Need-element-copy-out-op
-element-copy-out-op c = few c
-
-cast-holder : tie.Need-cast-holder
-cast-holder c = search needs
+not-responsible-requires : tie.Need-not-responsible-requires
+not-responsible-requires c κs = known (c .before .before .before .before)
 
 returns-4 : tie.Need-returns-4
-returns-4 c =
-    let a = c .before .before .before .before .before .before .before .before .before .before .before .before .args in
-    rw (known (c .before .before .before .before .before .before .before .before), plain (c .before .before .before .before .before .before), active (c .before .before .before), ne-eqb (opAt (a .t3) (a .q) .responsible) (a .t) (c .if4 .taken))
+returns-4 c tables h =
+    let s = c .before .before .before .before .before .before .before .before .before in
+    let a = s .args in
+    sym (past3 (c .before .before) tables h ∙ stopped Refused Accepted (rest 3 s tables) (sym (c .before .not-responsible .ensures (a .n)) ∙ c .if4 .taken))
 
-is-active-requires-2 : tie.Need-is-active-requires-2
-is-active-requires-2 c κs = search needs
+already-ended-requires : tie.Need-already-ended-requires
+already-ended-requires c κs = known (c .before .before .before .before .before .before)
 
 returns-5 : tie.Need-returns-5
-returns-5 c =
-    let a = c .before .before .before .before .before .before .before .before .before .before .before .before .before .before .args in
-    rw (known (c .before .before .before .before .before .before .before .before .before .before), plain (c .before .before .before .before .before .before .before .before), active (c .before .before .before .before .before), eq-eqb (opAt (a .t3) (a .q) .responsible) (a .t) (c .before .before .if4 .left), sym (ap not (c .before .is-active2 .ensures)) ∙ c .if5 .taken)
+returns-5 c tables h =
+    let s = c .before .before .before .before .before .before .before .before .before .before .before in
+    let a = s .args in
+    sym (past4 (c .before .before) tables h ∙ stopped Refused Accepted (rest 4 s tables) (sym (c .before .already-ended .ensures (a .n)) ∙ c .if5 .taken))
 
 returns-6 : tie.Need-returns-6
-returns-6 c =
-    let a = c .before .before .before .before .before .before .before .before .before .before .before .before .before .before .args in
-    rw (known (c .before .before .before .before .before .before .before .before .before .before), plain (c .before .before .before .before .before .before .before .before), active (c .before .before .before .before .before), eq-eqb (opAt (a .t3) (a .q) .responsible) (a .t) (c .before .before .if4 .left), sym (ap not (c .before .is-active2 .ensures)) ∙ c .if5 .left)
+returns-6 c tables h = sym (past5 c tables h)
 
 pub single-spec : {M : Type 1} → statement M
 single-spec =
     tie.close
     (tie.spec
-    size-requires
-    sort-of-requires
-    is-known-requires
+    unknown-requires
+    not-accepted-requires
     returns
-    is-plain-requires
+    not-plain-requires
     returns-2
-    phase-of-requires
-    is-active-requires
+    inactive-requires
     returns-3
-    mul-op
-    element-copy-out-op
-    cast-holder
+    not-responsible-requires
     returns-4
-    is-active-requires-2
+    already-ended-requires
     returns-5
     returns-6)

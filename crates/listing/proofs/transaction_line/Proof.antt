@@ -1,4 +1,4 @@
-use Rattle.judge.specs.declared.Phase.{Phase}
+use Rattle.rules.specs.declared.Phase.{Phase}
 use Rattle.listing.specs.Lines.{phaseWord}
 use mathlib.Core.Path.{_∙_, ap}
 use Rattle.listing.specs.Texts.{textOf, withAll}

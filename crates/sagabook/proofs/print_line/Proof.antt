@@ -7,10 +7,6 @@ use Rattle.listing.proofs.ListingLaws.{room-kept, wrote-fits}
 use borrow.Author.Needs.{needs}
 use Rattle.sagabook.proofs.print_line.Statement.{statement}
 use Rattle.sagabook.proofs.print_line.Tie as tie
-use Rattle.sagabook.proofs.print_line.Reads as reads
-use Rattle.sagabook.proofs.print_line.Lts as lts
-use Rattle.io.proofs.write_all.Reads as write-all-reads
-use Rattle.listing.proofs.put_line.Reads as put-line-reads
 
 -- what was written is in the room
 fits : (c : tie.After-known-told) → c .before .placed .given .0 .0 ≤ length (c .before .before .before .before .put-line .last .1 .1 .0)

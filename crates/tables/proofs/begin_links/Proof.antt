@@ -18,10 +18,6 @@ use Rattle.sets.proofs.RowLaws.{Holds}
 use Rattle.tables.proofs.CircleLaws.{linkedBy, links-none, links-all, links-in, links-out}
 use Rattle.tables.proofs.begin_links.Statement.{statement}
 use Rattle.tables.proofs.begin_links.Tie as tie
-use Rattle.tables.proofs.begin_links.Reads as reads
-use Rattle.tables.proofs.begin_links.Lts as lts
-use Rattle.sets.proofs.with_member.Reads as with-member-reads
-use Rattle.tables.proofs.Kind.is_begin_kind.Reads as is-begin-kind-reads
 
 zeros : (d : ℕ) → _≡_ {A = ℕ} (getD (replicate mostTransactions 0) d 0) 0
 zeros d =

@@ -10,9 +10,6 @@ use Rattle.sets.specs.Reach.{at, closed}
 use Rattle.sets.proofs.RowLaws.{Holds, tableOf, partly, rows-first, rows-none, rows-more, rows-last, partly-none, partly-all, partly-in, partly-out}
 use Rattle.tables.proofs.followed.Statement.{statement}
 use Rattle.tables.proofs.followed.Tie as tie
-use Rattle.tables.proofs.followed.Reads as reads
-use Rattle.tables.proofs.followed.Lts as lts
-use Rattle.sets.proofs.member.Reads as member-reads
 
 -- the rows before a have taken in row k
 abbrev Inv-loop2 : tie.InvT-loop2

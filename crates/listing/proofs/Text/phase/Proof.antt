@@ -1,5 +1,5 @@
 use mathlib.Core.Path.{_∙_, ap, sym}
-use Rattle.judge.specs.declared.Phase.{Phase}
+use Rattle.rules.specs.declared.Phase.{Phase}
 use Rattle.listing.specs.Texts.{textOf, withAll}
 use Rattle.listing.specs.Lines.{phaseWord}
 use borrow.Author.Needs.{needs}

@@ -1,6 +1,5 @@
 use lib.ListN.{replicate}
 use Rattle.ties.specs.Operations.{mostOperations}
-use Rattle.ties.specs.declared.Ops.{Ops}
 use borrow.Author.Needs.{needs}
 use Rattle.ties.proofs.Ops.none.Statement.{statement}
 use Rattle.ties.proofs.Ops.none.Tie as tie

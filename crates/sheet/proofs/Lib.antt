@@ -1,0 +1,3 @@
+-- Laws of the sheet.
+pub mod CodeLaws
+pub mod HeldLaws
