@@ -3,6 +3,7 @@ pub mod ReadLaws
 pub mod ReadingWalksHolds
 pub mod OpeningLaws
 pub mod LongestLaws
+pub mod BehindLaws
 pub mod RunLaws
 pub mod WholeLaws
 pub mod PackingLaws

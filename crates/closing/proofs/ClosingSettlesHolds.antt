@@ -3,14 +3,14 @@ use Prim.Native.Nat.{ℕ, zero, suc, _+_, _*_, _≤_, _<_}
 use native.Mathlib.Omega.{arith}
 use mathlib.Core.Path.{_≡_, refl, sym, ap, subst, _∙_, ap₂}
 use mathlib.Core.Logic.{_≢_}
-use mathlib.Core.List.{List, _∷_, _++_}
+use mathlib.Core.List.{List, [], _∷_, _++_}
 use mathlib.Core.Bool.{true, false}
-use lib.ListN.{length}
+use lib.ListN.{length, length-append}
 use lib.Dec.{ltb, leb}
-use borrow.Author.Tests.{le-ltb}
+use borrow.Author.Tests.{le-ltb, lt-leb}
 use mathlib.Core.Option.{some}
 use denote.Ref.{now}
-use Rattle.laws.proofs.Bools.{and-off, and-on, not-on}
+use Rattle.laws.proofs.Bools.{and-off, and-on, clash, not-on, on-and}
 use Rattle.laws.proofs.Decisions.{same-or}
 use Rattle.tables.specs.Accepted.{Well}
 use Rattle.tables.specs.Reading.{tablesBy}
@@ -31,8 +31,8 @@ use Rattle.histories.proofs.Steps.{keeps-by}
 use Rattle.histories.proofs.Touches.{phased, rises}
 use Rattle.closing.specs.Closing.{closing, eventOf, outstanding, ownOf, settled}
 use Rattle.closing.specs.Demand.{allForeign, foreign, mine}
-use Rattle.closing.specs.Settling.{ClosingSettles, closeAll, closeOne, closingSteps}
-use Rattle.closing.proofs.Demand3Holds.{Good, Lowers, alike, good-kept, good-run, good-start, has-step, settled-is, settled-same, step-down, zero-exactly}
+use Rattle.closing.specs.Settling.{ClosingSettles, ClosingSettlesRead, closeAll, closeOne, closingSteps, owedBelow}
+use Rattle.closing.proofs.Demand3Holds.{Good, Lowers, alike, good-kept, good-run, good-start, has-step, out-is, out-same, settled-is, settled-same, step-down, zero-exactly}
 
 -- ---- what was begun stays begun
 
@@ -124,21 +124,43 @@ apart tables i k l x h =
     and-off (leb (firstOf tables i) (firstOf tables k + x)) (ltb (firstOf tables k + x) (firstOf tables i + 2 * stepsOf tables i))
     (λ e. le-ltb (firstOf tables k + x) (firstOf tables i + 2 * stepsOf tables i) (omega (arith, owned-apart tables i k l)))
 
+before : (tables : Tables) (i k : ℕ) → k < i → (x : ℕ) → x < 2 * stepsOf tables k → mine (firstOf tables i) (stepsOf tables i) (firstOf tables k + x) ≡ false
+before tables i k l x h =
+    and-off (leb (firstOf tables i) (firstOf tables k + x)) (ltb (firstOf tables k + x) (firstOf tables i + 2 * stepsOf tables i))
+    (λ e. clash e (lt-leb (firstOf tables i) (firstOf tables k + x) (omega (arith, owned-apart tables k i l))))
+
+foreign-append : (f n : ℕ) (xs ys : List Event) → allForeign f n xs ≡ true → allForeign f n ys ≡ true → allForeign f n (xs ++ ys) ≡ true
+unfolding allForeign
+foreign-append f n [] ys a b = b
+foreign-append f n (x ∷ xs) ys a b =
+    let both = on-and (foreign f n x) (allForeign f n xs) a in
+    and-on (foreign f n x) (allForeign f n (xs ++ ys)) (both .0) (foreign-append f n xs ys (both .1) b)
+
 -- ---- all sagas, in rising order
 
 module _ (tables : Tables) (well : Well tables) (s : State) (good : (i : ℕ) → i < tables .sagas → Good tables i s) where
   -- the sagas below k are closed
   record AllClosed (k : ℕ) (l : List Event) : Type 0 where
+    together : length l ≡ owedBelow tables s k
+    -- none of these events is a later saga's
+    earlier : (i : ℕ) → k ≤ i → allForeign (firstOf tables i) (stepsOf tables i) l ≡ true
     all-taken : taken tables s l ≡ l
     all-settled : (i : ℕ) → i < k → ownOf tables s i 0 ≢ Idle → settled tables (run tables s l) i ≡ true
 
   close-more : (k : ℕ) (l : List Event) → k < tables .sagas → AllClosed k l → AllClosed (suc k) (l ++ closeOne tables k (run tables s l))
+  unfolding owedBelow
   close-more k l low c =
       let now : State = run tables s l in
       let steps : List Event = closeOne tables k now in
       let here : Good tables k now = good-run tables well k low l s (good k low) in
       let one = close-one tables well k low now here in
+      let same = alike tables well k low l s (good k low) (c .earlier k (omega arith)) in
+      let owes : outstanding tables now k ≡ outstanding tables s k =
+      out-is tables well k low now ∙ out-same (firstOf tables k) (stepsOf tables k) (ownOf tables s k) (ownOf tables now k) same (has-step tables well k low) ∙ sym (out-is tables well k low s) in
       record {
+        together = length-append l steps ∙ ap₂ _+_ (c .together) (one .many ∙ owes);
+        earlier = λ i h. foreign-append (firstOf tables i) (stepsOf tables i) l steps (c .earlier i (omega arith))
+            (one .elsewhere (firstOf tables i) (stepsOf tables i) (λ x m. before tables i k (omega arith) x m));
         all-taken = taken-append tables l steps s ∙ ap₂ (λ (x y : List Event). x ++ y) (c .all-taken) (one .all-taken);
         all-settled = λ i h b.
             ap (λ (x : State). settled tables x i) (run-append tables l steps s)
@@ -155,14 +177,12 @@ module _ (tables : Tables) (well : Well tables) (s : State) (good : (i : ℕ) �
       }
 
   close-each : (k : ℕ) → k ≤ tables .sagas → AllClosed k (closeAll tables s k)
-  unfolding closeAll taken
-  close-each zero h = record { all-taken = refl; all-settled = λ i l. absurd (omega arith) }
+  unfolding closeAll taken owedBelow allForeign
+  close-each zero h = record { together = refl; earlier = λ i l. refl; all-taken = refl; all-settled = λ i l. absurd (omega arith) }
   close-each (suc k) h = close-more k (closeAll tables s k) h (close-each k (omega arith))
 
 pub closing-settles : ClosingSettles
-closing-settles circles cap book at e es =
-    let tables : Tables = tablesBy circles cap book .tables in
-    let well : Well tables = accepted-well circles cap book at e in
+closing-settles tables well es =
     let good : (i : ℕ) → i < tables .sagas → Good tables i (reached tables es) =
     λ i low. good-run tables well i low es emptyState (good-start tables well i low) in
     let every = close-each tables well (reached tables es) good (tables .sagas) (omega arith) in
@@ -170,5 +190,9 @@ closing-settles circles cap book at e es =
       one = λ i low b.
           let c = close-one tables well i low (reached tables es) (good i low) in
           (c .many, c .all-taken, settles tables well i low (reached tables es) (good i low) b);
+      sum = every .together;
       all = (every .all-taken, every .all-settled);
     }
+
+pub closing-settles-read : ClosingSettlesRead
+closing-settles-read circles cap book at e es = closing-settles (tablesBy circles cap book .tables) (accepted-well circles cap book at e) es

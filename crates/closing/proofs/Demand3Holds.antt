@@ -33,7 +33,7 @@ use Rattle.rules.proofs.PhaseLaws.{code-inj}
 use Rattle.histories.proofs.Steps.{step}
 use Rattle.histories.proofs.RunLaws.{by-verdict, keeps, next-ok, run-no, run-none, run-ok}
 use Rattle.closing.specs.Closing.{activeStep, backStep, closing, closingBy, eventOf, isListed, nextUndo, outstanding, outstandingBy, owed, ownOf, settled, toUndo}
-use Rattle.closing.specs.Demand.{Beginning, Closes, Demand, Demand3, allForeign, backRun, commitsOf, foreign, mine, wholeRun}
+use Rattle.closing.specs.Demand.{Beginning, Closes, Demand, Demand3, Demand3Read, allForeign, backRun, commitsOf, foreign, mine, wholeRun}
 use Rattle.closing.proofs.Acts.{Acts, acts, mine-on, moved, quiet}
 use Rattle.closing.proofs.ClosingAccepted.{accept, does}
 use Rattle.closing.proofs.Moves.{Move, abort-saga, abort-step, begin-saga, begin-step, begin-undo, commit-saga, commit-step, commit-undo, movedAt}
@@ -261,4 +261,7 @@ module _ (tables : Tables) (well : Well tables) (i : ℕ) (low : i < tables .sag
       }
 
 pub demand3 : Demand3
-demand3 circles cap s at e i low = demand (tablesBy circles cap s .tables) (accepted-well circles cap s at e) i low
+demand3 = demand
+
+pub demand3-read : Demand3Read
+demand3-read circles cap s at e i low = demand3 (tablesBy circles cap s .tables) (accepted-well circles cap s at e) i low

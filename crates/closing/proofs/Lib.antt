@@ -11,3 +11,4 @@ pub mod ClosingAccepted
 pub mod AlwaysCommitsHolds
 pub mod Demand3Holds
 pub mod ClosingSettlesHolds
+pub mod SettledRunsHold

@@ -88,7 +88,8 @@ module _ (tables : Tables) (well : Well tables) (i : ℕ) (listed : i < tables .
       (subst (λ (l : List Event). Shape f n (own (run tables s es .transactions) f) (H ++ commitsOf f n l)) (sym (taken-no tables s e k v es))
       (shape-run es s H h sh)))
 
+  pub shape-of : (es : List Event) → Shape f n (own (reached tables es .transactions) f) (commitsOf f n (history tables es))
+  shape-of es = shape-run es emptyState [] fair-start (first-shape f n (own (emptyState .transactions) f) (λ k. ap code (all-idle (f + k))))
+
   pub in-order : (es : List Event) → Begun f n (commitsOf f n (history tables es))
-  in-order es =
-      begun f n (own (reached tables es .transactions) f) (commitsOf f n (history tables es))
-      (shape-run es emptyState [] fair-start (first-shape f n (own (emptyState .transactions) f) (λ k. ap code (all-idle (f + k)))))
+  in-order es = begun f n (own (reached tables es .transactions) f) (commitsOf f n (history tables es)) (shape-of es)

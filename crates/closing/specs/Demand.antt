@@ -7,6 +7,7 @@ use mathlib.Core.Option.{some}
 use mathlib.Core.List.{List, [], _∷_, _++_}
 use lib.Dec.{ltb, leb}
 use Rattle.terms.specs.declared.Verdict.the-variants.{Accepted}
+use Rattle.tables.specs.Accepted.{Well}
 use Rattle.tables.specs.Sorts.{firstOf, stepsOf}
 use Rattle.tables.specs.Reading.{tablesBy}
 use Rattle.tables.specs.declared.Circles.{Circles}
@@ -108,7 +109,11 @@ pub record Demand (tables : Tables) (i : ℕ) : Type 0 where
       → 0 < outstanding tables (reached tables es) i
       → Closes tables i (reached tables es) (run tables (reached tables es) others)
 
--- for all tables that reading accepts, an old book's too, and every saga in them
+-- for all well-formed tables and every saga in them
 abbrev pub Demand3 : Type 0
-Demand3 = (circles : Circles) (cap : ℕ) (s : List ℕ) (at : ℕ) → tablesBy circles cap s .answer ≡ Read at
+Demand3 = (tables : Tables) → Well tables → (i : ℕ) → i < tables .sagas → Demand tables i
+
+-- so for all tables that reading accepts, circles permitted or not
+abbrev pub Demand3Read : Type 0
+Demand3Read = (circles : Circles) (cap : ℕ) (s : List ℕ) (at : ℕ) → tablesBy circles cap s .answer ≡ Read at
     → (i : ℕ) → i < tablesBy circles cap s .tables .sagas → Demand (tablesBy circles cap s .tables) i

@@ -11,4 +11,6 @@ pub mod TiesMean
 pub mod CircleIdle
 pub mod Orders
 pub mod UndoRings
+pub mod AcceptedWhenHolds
+pub mod JudgingOrderHolds
 pub mod JudgePromisesHold

@@ -67,7 +67,7 @@ bounded tables es =
     keeps-by tables Bounded (bounded-kept tables) es emptyState (record { lasts = lasting-start; within = λ p l. absurd (omega arith) })
 
 -- so whatever is not aborted counts for the order
-stays-in : (s : State) → Bounded s → (p : ℕ) → p < s .ops .count → isAbortedOp (opAt (s .ops) p .fate) ≡ false → isGone (opAt (s .ops) p) ≡ false
+pub stays-in : (s : State) → Bounded s → (p : ℕ) → p < s .ops .count → isAbortedOp (opAt (s .ops) p .fate) ≡ false → isGone (opAt (s .ops) p) ≡ false
 stays-in s h p l a =
     let op = opAt (s .ops) p in
     let w = h .within p l in

@@ -8,13 +8,13 @@ use Rattle.terms.specs.declared.Verdict.{Verdict}
 use Rattle.terms.specs.declared.Verdict.the-variants.{Accepted, Refused}
 use Rattle.tables.specs.declared.Tables.{Tables}
 use Rattle.histories.specs.Histories.{next, run, taken}
-use Rattle.judge.specs.Judge.{changeBy, changeOf, judged, lines, rulingOf, stateAfter}
+use Rattle.judge.specs.Judge.{changeBy, changeOf, judged, lines, rulingOf, stateAfter, verdictBy}
 use Rattle.histories.specs.Promises.{OneEvent}
 use Rattle.terms.specs.declared.Event.{Event}
 use Rattle.rules.specs.declared.State.{State}
 use Rattle.judge.proofs.RuleLaws.{not-accepted}
 
-same-refusal : (r q : Refusal) → Refused r ≡ Refused q → r ≡ q
+pub same-refusal : (r q : Refusal) → Refused r ≡ Refused q → r ≡ q
 same-refusal r q e = cc
 
 pub run-none : (tables : Tables) (s : State) → run tables s [] ≡ s
@@ -34,6 +34,10 @@ module _ (tables : Tables) (s : State) (e : Event) where
   pub first-line : (r : Refusal) → judged tables s e .verdict ≡ Refused r → FirstIs r (lines tables s e)
   unfolding judged rulingOf
   first-line r v = first-is Refused Accepted not-accepted same-refusal r (lines tables s e) v
+
+  pub verdict-lines : judged tables s e .verdict ≡ verdictBy (lines tables s e)
+  unfolding judged rulingOf
+  verdict-lines = refl
 
   pub line-first : (r : Refusal) → FirstIs r (lines tables s e) → judged tables s e .verdict ≡ Refused r
   unfolding judged rulingOf

@@ -1,20 +1,19 @@
 -- One operation ended alone: when it is accepted, and that nothing else changes.
 use Prim.Native.Nat.{ℕ}
 use mathlib.Core.Path.{_≡_, refl, sym, subst, _∙_}
-use mathlib.Core.Bool.{true, false, not, _&&_, _||_, and-false, false≢true}
+use mathlib.Core.Bool.{true, false, not, _||_, and-false, false≢true}
 use lib.Dec.{ltb, eqb}
 use borrow.Author.Tests.{eq-eqb, lt-ltb, ne-eqb}
-use Rattle.laws.specs.Index.{anyBelow}
-use Rattle.laws.proofs.Bools.{and-off, and-rest, bool-cases, not-off, off-not, on-and, on-not}
+use Rattle.laws.proofs.Bools.{bool-cases}
 use Rattle.laws.proofs.Decisions.{same-or}
-use Rattle.laws.proofs.IndexLaws.{any-off, off-any}
 use Rattle.terms.specs.declared.Verdict.the-variants.{Accepted}
-use Rattle.ties.specs.Operations.{endedAs, isAborted as isAbortedOp, isActive as isActiveOp, onlyActive, opAt, size}
-use Rattle.ties.specs.Ties.{cleanFor, dirties, dirtyAt, readBy, tied, tiedTo}
+use Rattle.ties.specs.Operations.{endedAs, isActive as isActiveOp, onlyActive, opAt, size}
+use Rattle.ties.specs.Ties.{dirtyAt}
 use Rattle.ties.specs.declared.Fate.{Fate}
-use Rattle.ties.specs.declared.Fate.the-variants.{Aborted as FateAborted, Active as FateActive, Committed as FateCommitted}
+use Rattle.ties.specs.declared.Fate.the-variants.{Aborted as FateAborted, Committed as FateCommitted}
 use Rattle.ties.proofs.OpsLaws.{count-rewritten, rewritten-at}
-use Rattle.ties.proofs.TieLaws.{tie-made, tie-parts}
+use Rattle.ties.proofs.DirtyLaws.{CleanBefore, clean-dirty, dirty-clean, read-on, read-parts}
+use Rattle.ties.proofs.OrderLaws.{active-stands}
 use Rattle.tables.specs.Sorts.{isKnown, isPlain, sortOf}
 use Rattle.tables.specs.declared.Sort.{Sort}
 use Rattle.tables.specs.declared.Sort.the-variants.{Plain, Saga, Step, Undo, Unknown}
@@ -36,11 +35,6 @@ plain-known (Undo f n i) e = absurd (false≢true e)
 plain-known Plain e = refl
 plain-known Unknown e = absurd (false≢true e)
 
-active-stands : (f : Fate) → isActiveOp f ≡ true → isAbortedOp f ≡ false
-active-stands FateAborted e = absurd (false≢true e)
-active-stands FateActive e = refl
-active-stands FateCommitted e = refl
-
 module _ (tables : Tables) (s : State) (t q : ℕ) where
   module _ (may : MayEndOne tables s t q) where
     known : (unknown tables t || not (ltb q (size (s .ops)))) ≡ false
@@ -58,49 +52,23 @@ module _ (tables : Tables) (s : State) (t q : ℕ) where
     not-running : not (isActiveOp (opAt (s .ops) q .fate)) ≡ false
     not-running = rw (may .running)
 
-    -- q as a read that t answers for
-    read-on : isWrite (opAt (s .ops) q .mark) ≡ false → readBy t (opAt (s .ops) q) ≡ true
-    read-on r = rw (eq-eqb (opAt (s .ops) q .responsible) t (may .mine), r, active-stands (opAt (s .ops) q .fate) (may .running))
-
     -- the dirty-read rule for q alone, as a line and in words
-    dirty-clean : dirtyAt (s .ops) t q ≡ false → isWrite (opAt (s .ops) q .mark) ≡ false
-        → (p : ℕ) → isWrite (opAt (s .ops) p .mark) ≡ true → tied (s .ops) p q ≡ true → cleanFor t (opAt (s .ops) p) ≡ true
-    unfolding dirtyAt
-    dirty-clean d r p w tie =
-        let parts = tie-parts (s .ops) p q tie in
-        let none = and-rest (readBy t (opAt (s .ops) q)) (anyBelow q (λ i. dirties t (opAt (s .ops) q) q (opAt (s .ops) i))) d (read-on r) in
-        let at-p = off-any q (λ i. dirties t (opAt (s .ops) q) q (opAt (s .ops) i)) none p (parts .earlier) in
-        let tied-p = and-rest (isWrite (opAt (s .ops) p .mark)) (tiedTo (opAt (s .ops) p) (opAt (s .ops) q) q && not (cleanFor t (opAt (s .ops) p))) at-p w in
-        off-not (cleanFor t (opAt (s .ops) p)) (and-rest (tiedTo (opAt (s .ops) p) (opAt (s .ops) q) q) (not (cleanFor t (opAt (s .ops) p))) tied-p (parts .holds))
+    clean-one : dirtyAt (s .ops) t q ≡ false → isWrite (opAt (s .ops) q .mark) ≡ false → CleanBefore (s .ops) t q
+    clean-one d r = dirty-clean (s .ops) t q d (read-on t (opAt (s .ops) q) (may .mine) r (active-stands (opAt (s .ops) q .fate) (may .running)))
 
-    clean-dirty : (isWrite (opAt (s .ops) q .mark) ≡ false
-        → (p : ℕ) → isWrite (opAt (s .ops) p .mark) ≡ true → tied (s .ops) p q ≡ true → cleanFor t (opAt (s .ops) p) ≡ true)
-        → dirtyAt (s .ops) t q ≡ false
-    unfolding dirtyAt
-    clean-dirty clean =
-        and-off (readBy t (opAt (s .ops) q)) (anyBelow q (λ i. dirties t (opAt (s .ops) q) q (opAt (s .ops) i)))
-        (λ r.
-        let own = on-and (eqb (opAt (s .ops) q .responsible) t) (not (isWrite (opAt (s .ops) q .mark)) && not (isAbortedOp (opAt (s .ops) q .fate))) r in
-        let read = on-not (isWrite (opAt (s .ops) q .mark)) (on-and (not (isWrite (opAt (s .ops) q .mark))) (not (isAbortedOp (opAt (s .ops) q .fate))) (own .1) .0) in
-        any-off q (λ i. dirties t (opAt (s .ops) q) q (opAt (s .ops) i))
-        (λ i l.
-        and-off (isWrite (opAt (s .ops) i .mark)) (tiedTo (opAt (s .ops) i) (opAt (s .ops) q) q && not (cleanFor t (opAt (s .ops) i)))
-        (λ w.
-        and-off (tiedTo (opAt (s .ops) i) (opAt (s .ops) q) q) (not (cleanFor t (opAt (s .ops) i)))
-        (λ tie.
-        not-off (cleanFor t (opAt (s .ops) i))
-        (clean read i w (tie-made (s .ops) i q (record { accepted = may .accepted; earlier = l; holds = tie })))))))
+    one-clean : (isWrite (opAt (s .ops) q .mark) ≡ false → CleanBefore (s .ops) t q) → dirtyAt (s .ops) t q ≡ false
+    one-clean clean = clean-dirty (s .ops) t q (may .accepted) (λ r. clean (read-parts t (opAt (s .ops) q) r .1 .0))
 
   commit-may : judged tables s (CommitOne t q) .verdict ≡ Accepted → MayCommitOne tables s t q
   commit-may v =
       let may = commit-one-may tables s t q (lines-off tables s (CommitOne t q) v) in
-      record { may-end = may .0; clean = dirty-clean (may .0) (may .1); off-rings = may .2 }
+      record { may-end = may .0; clean = clean-one (may .0) (may .1); off-rings = may .2 }
 
   may-commit : MayCommitOne tables s t q → judged tables s (CommitOne t q) .verdict ≡ Accepted
   may-commit may =
       let end = may .may-end in
       off-lines tables s (CommitOne t q)
-      (known end, (not-plain end, (not-active end, (not-mine end, (not-running end, (clean-dirty end (may .clean), (may .off-rings, tt)))))))
+      (known end, (not-plain end, (not-active end, (not-mine end, (not-running end, (one-clean end (may .clean), (may .off-rings, tt)))))))
 
   abort-may : judged tables s (AbortOne t q) .verdict ≡ Accepted → MayEndOne tables s t q
   abort-may v = single-may tables s t q (lines-off tables s (AbortOne t q) v)

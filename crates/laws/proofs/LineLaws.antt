@@ -55,6 +55,11 @@ module _ {R A : Type 0} (given : R → A) (otherwise : A) where
         bool-cases (x .holds) (λ t. rw t (rw t at e)) (λ t. rw t (first-stays r xs ys (rw t at e)))
 
     module _ (same : (r q : R) → given r ≡ given q → r ≡ q) where
+      -- the answer is a refusal that is not this line's: the line does not hold, and those after it give the answer
+      pub peeled : (r : R) (l : Line R) (ls : List (Line R)) → (l .refusal ≡ r → ⊥) → firstLine given otherwise (l ∷ ls) ≡ given r
+          → (l .holds ≡ false) × (firstLine given otherwise ls ≡ given r)
+      peeled r l ls n e = bool-cases (l .holds) (λ t. absurd (n (same (l .refusal) r (rw t at e)))) (λ t. (t, rw t at e))
+
       pub first-is : (r : R) (ls : List (Line R)) → firstLine given otherwise ls ≡ given r → FirstIs r ls
       first-is r [] e = absurd (apart r (sym e))
       first-is r (l ∷ ls) e =

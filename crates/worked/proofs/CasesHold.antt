@@ -33,4 +33,4 @@ circle-cases = record { refused = refl; permitted = refl; through-others = refl;
 
 pub order-cases : OrderCases
 unfolding anyBelow highest sumTo tabulate orRow pivot closed leadsTo numberAt made changed rewritten tiedTo counts edge tiesOf onRing ringWith dirtyAt dirty mustWait placeOf sortFrom sortOf ownedBy kindOf risesTo entryHolds emptyTables rowFrom numberWithin sagasFrom entryAt beginLink hasCircle dependenciesFrom unlessCircle restFrom tablesBy entered declaredBars rulingOf stateAfter judged codeOf eventFrom itemAt itemsFrom itemsAfter judgeAll readingBy
-order-cases = record { through-committed = refl; bars-undo = refl }
+order-cases = record { through-committed = refl; bars-undo = refl; after-kept = refl; reads-apart = refl }

@@ -1,0 +1,137 @@
+-- When an operation, a delegation and a commit are accepted, and when 22 refuses: once more in the words of the rules, without the lists of lines; which pairs
+-- a new operation adds to the order; and the one order of judging.
+use Prim.Native.Nat.{ℕ, _<_}
+use mathlib.Core.Path.{_≡_}
+use mathlib.Core.Bool.{Bool, true, false, cond}
+use mathlib.Core.Logic.{_↔_, _≢_, _⊎_}
+use mathlib.Core.List.{List, [], _∷_, map}
+use lib.Dec.{eqb}
+use Rattle.laws.specs.Lines.{Line}
+use Rattle.terms.specs.Events.{isWrite}
+use Rattle.terms.specs.Limits.{mostObjects, mostTransactions}
+use Rattle.terms.specs.Refusals.{numberOf}
+use Rattle.terms.specs.declared.Event.{Event}
+use Rattle.terms.specs.declared.Event.the-variants.{Commit, Delegate, Operation as Invoke}
+use Rattle.terms.specs.declared.Mark.{Mark}
+use Rattle.terms.specs.declared.Refusal.{Refusal}
+use Rattle.terms.specs.declared.Refusal.the-variants.{NotInTables, NeverDoes, NotIdle, NotActive, NotResponsible, SagaRule, DependencyRule, DirtyRead, OnRing, MustWait, Full, AlreadyEnded, UndoOnRing}
+use Rattle.terms.specs.declared.Verdict.the-variants.{Accepted, Refused}
+use Rattle.ties.specs.Operations.{isAborted, isActive as isActiveOperation, mostOperations, newOp, opAt, size}
+use Rattle.ties.specs.Ties.{before, beforeGiven, beforeMade, cleanFor, conflict, onRing, tied}
+use Rattle.ties.specs.declared.Ops.{Ops}
+use Rattle.tables.specs.Counts.{objectCount}
+use Rattle.tables.specs.Sorts.{isKnown, isSaga, isUndo, sortOf}
+use Rattle.tables.specs.declared.Tables.{Tables}
+use Rattle.rules.specs.Rules.{commitBarred, declaredBars}
+use Rattle.rules.specs.States.{isActive, phaseOf}
+use Rattle.rules.specs.declared.State.{State}
+use Rattle.judge.specs.Judge.{judged, lines}
+use Rattle.histories.specs.Histories.{reached}
+use Rattle.histories.specs.Promises.{UndoRinged}
+
+-- ---- an operation
+
+-- "An undo may not invoke an operation that conflicts with an active operation of another responsible transaction."
+abbrev pub Waited : Tables → State → ℕ → ℕ → Mark → Type 0
+Waited tables s t o m =
+    isUndo (sortOf tables t) ≡ true
+    → (p : ℕ) → p < size (s .ops) → isActiveOperation (opAt (s .ops) p .fate) ≡ true → opAt (s .ops) p .responsible ≢ t → conflict (opAt (s .ops) p) o m ≡ false
+
+-- t is in the tables, no saga and active, the object is in the tables, and an undo has waited
+pub record CouldInvoke (tables : Tables) (s : State) (t o : ℕ) (m : Mark) : Type 0 where
+  pub known : isKnown (sortOf tables t) ≡ true
+  pub object : o < objectCount tables
+  pub no-saga : isSaga (sortOf tables t) ≡ false
+  pub active : isActive (phaseOf (s .transactions) t) ≡ true
+  pub waited : Waited tables s t o m
+
+-- and it would put no active undo on a ring, and there is room for it
+pub record MayInvoke (tables : Tables) (s : State) (t o : ℕ) (m : Mark) : Type 0 where
+  pub could : CouldInvoke tables s t o m
+  pub no-ring : UndoRinged tables s (beforeMade (s .ops) (newOp t o m)) → ⊥
+  pub room : s .ops .count < mostOperations
+
+-- ---- a delegation
+
+-- a party is in the tables, no saga, no undo, and active
+pub record Party (tables : Tables) (s : State) (t : ℕ) : Type 0 where
+  pub known : isKnown (sortOf tables t) ≡ true
+  pub no-saga : isSaga (sortOf tables t) ≡ false
+  pub no-undo : isUndo (sortOf tables t) ≡ false
+  pub active : isActive (phaseOf (s .transactions) t) ≡ true
+
+-- two parties; the operation was accepted, and the giver is responsible for it
+pub record CouldDelegate (tables : Tables) (s : State) (t r q : ℕ) : Type 0 where
+  pub giver : Party tables s t
+  pub receiver : Party tables s r
+  pub differ : t ≢ r
+  pub accepted : q < size (s .ops)
+  pub mine : opAt (s .ops) q .responsible ≡ t
+
+-- the operation is active, and given to r it would put an active undo on a ring
+abbrev pub RingsGiven : Tables → State → ℕ → ℕ → Type 0
+RingsGiven tables s r q = (isActiveOperation (opAt (s .ops) q .fate) ≡ true) × UndoRinged tables s (beforeGiven (s .ops) q r)
+
+pub record MayDelegate (tables : Tables) (s : State) (t r q : ℕ) : Type 0 where
+  pub could : CouldDelegate tables s t r q
+  pub no-ring : RingsGiven tables s r q → ⊥
+
+-- ---- a commit
+
+-- t is in the tables and active, the saga rules and the declared dependencies let it; every write tied before a read t answers for is committed, or is active
+-- and t's; and t is on no ring
+pub record MayCommit (tables : Tables) (s : State) (t : ℕ) : Type 0 where
+  pub known : isKnown (sortOf tables t) ≡ true
+  pub active : isActive (phaseOf (s .transactions) t) ≡ true
+  pub saga : commitBarred (s .transactions) (sortOf tables t) ≡ false
+  pub declared : declaredBars false tables (s .transactions) t ≡ false
+  pub clean : (q : ℕ) → q < size (s .ops) → opAt (s .ops) q .responsible ≡ t → isWrite (opAt (s .ops) q .mark) ≡ false → isAborted (opAt (s .ops) q .fate) ≡ false
+      → (p : ℕ) → isWrite (opAt (s .ops) p .mark) ≡ true → tied (s .ops) p q ≡ true → cleanFor t (opAt (s .ops) p) ≡ true
+  pub off-rings : onRing (s .ops) t ≡ false
+
+-- ---- the order with a new operation
+
+-- an operation of a that is not aborted conflicts with the new one of t
+pub record NewPair (ops : Ops) (t o : ℕ) (m : Mark) (a b : ℕ) : Type 0 where
+  pub p : ℕ
+  pub below : p < size ops
+  pub conflicts : conflict (opAt ops p) o m ≡ true
+  pub there : isAborted (opAt ops p .fate) ≡ false
+  pub first : opAt ops p .responsible ≡ a
+  pub second : b ≡ t
+  pub differ : a ≢ b
+
+-- ---- after any run of events
+
+pub record AcceptedWhen (tables : Tables) (es : List Event) : Type 0 where
+  pub invoke : (t o : ℕ) (m : Mark) → (judged tables (reached tables es) (Invoke t o m) .verdict ≡ Accepted) ↔ MayInvoke tables (reached tables es) t o m
+  -- "an operation or delegation that would put an active undo on a ring is refused": by 22 exactly then, also where there is no room
+  pub invoke-rings : (t o : ℕ) (m : Mark) → (judged tables (reached tables es) (Invoke t o m) .verdict ≡ Refused UndoOnRing)
+      ↔ (CouldInvoke tables (reached tables es) t o m × UndoRinged tables (reached tables es) (beforeMade (reached tables es .ops) (newOp t o m)))
+  pub delegate : (t r q : ℕ) → (judged tables (reached tables es) (Delegate t r q) .verdict ≡ Accepted) ↔ MayDelegate tables (reached tables es) t r q
+  pub delegate-rings : (t r q : ℕ) → (judged tables (reached tables es) (Delegate t r q) .verdict ≡ Refused UndoOnRing)
+      ↔ (CouldDelegate tables (reached tables es) t r q × RingsGiven tables (reached tables es) r q)
+  pub commit : (t : ℕ) → (judged tables (reached tables es) (Commit t) .verdict ≡ Accepted) ↔ MayCommit tables (reached tables es) t
+  -- a new operation within the limits adds exactly the pairs that end at its invoker
+  pub pairs-made : (t o : ℕ) (m : Mark) → t < mostTransactions → o < mostObjects → (a b : ℕ)
+      → (beforeMade (reached tables es .ops) (newOp t o m) a b ≡ true) ↔ ((before (reached tables es .ops) a b ≡ true) ⊎ NewPair (reached tables es .ops) t o m a b)
+
+-- ---- the one order of judging: by number, but for 20 after 14 and 22 before 18
+
+abbrev pub judgingOrder : List Refusal
+judgingOrder =
+    NotInTables ∷ NeverDoes ∷ NotIdle ∷ NotActive ∷ NotResponsible ∷ SagaRule ∷ DependencyRule ∷ AlreadyEnded ∷ DirtyRead ∷ OnRing ∷ MustWait ∷ UndoOnRing ∷ Full ∷ []
+
+abbrev pub refusalsOf : List (Line Refusal) → List Refusal
+refusalsOf = map (λ (l : Line Refusal). l .refusal)
+
+-- the first list is what is left of the second where some are left out
+abbrev pub leftOf : List Refusal → List Refusal → Bool
+leftOf [] ys = true
+leftOf (x ∷ xs) [] = false
+leftOf (x ∷ xs) (y ∷ ys) = cond (eqb (numberOf x) (numberOf y)) (leftOf xs ys) (leftOf (x ∷ xs) ys)
+
+pub record JudgingOrder : Type 0 where
+  pub numbers : map numberOf judgingOrder ≡ 8 ∷ 9 ∷ 10 ∷ 11 ∷ 12 ∷ 13 ∷ 14 ∷ 20 ∷ 15 ∷ 16 ∷ 17 ∷ 22 ∷ 18 ∷ []
+  -- the lines of every event stand in this order, each once
+  pub kept : (tables : Tables) (s : State) (e : Event) → leftOf (refusalsOf (lines tables s e)) judgingOrder ≡ true
