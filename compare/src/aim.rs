@@ -1,7 +1,7 @@
 //! Books whose last event is meant to be refused by one number.
 
-use crate::draft::Event;
-use crate::model::{Circumstance, Model, Phase};
+use crate::draft::{Event, Tables};
+use crate::model::{Circumstance, Model};
 use crate::random::Random;
 use crate::story::{full_story, wild_event, Story};
 use crate::tables::{plain_numbers, tables_for};
@@ -15,11 +15,15 @@ const ATTEMPTS: usize = 6;
 pub fn story_aimed_at(random: &mut Random, number: u8) -> Option<Story> {
     (0..ATTEMPTS).find_map(|_| {
         let mut story = match number {
-            13 => story_of_sagas(random),
+            11 | 12 if random.one_in(4) => story_around_an_undo(random)?,
+            13 if random.one_in(5) => story_of_a_long_saga(random),
+            13 if !random.one_in(4) => story_of_sagas(random),
+            14 if random.one_in(2) => story_of_an_entry(random)?,
             15 if random.one_in(2) => story_with_kept_read(random)?,
             16 if random.one_in(2) => story_with_ring(random)?,
             17 => story_with_active_undo(random)?,
             18 => full_story(random, 5)?,
+            20 if random.one_in(3) => story_with_kept_read(random)?,
             22 => story_around_an_undo(random)?,
             _ => story_to_go_wrong(random, number),
         };
@@ -48,27 +52,88 @@ fn story_of_sagas(random: &mut Random) -> Story {
     story
 }
 
-/// A story with an active undo, now and then with 256 operations too.
+/// A story of one saga of many steps that goes far, and often some way back.
+fn story_of_a_long_saga(random: &mut Random) -> Story {
+    let steps = random.within(6..=16) as u16;
+    let mut story = Story::new(Tables {
+        steps: vec![steps],
+        plain: random.below(4) as u16,
+        objects: random.below(4) as u16,
+        dependencies: Vec::new(),
+    });
+    story.go_on_with(Event::Begin(0));
+    let done = random.within(1..=steps.into()) as u16;
+    for step in 1..=done {
+        story.go_on_with(Event::Begin(step));
+        story.go_on_with(Event::Commit(step));
+    }
+    if random.one_in(2) {
+        story.go_on_with(Event::Begin(done + 1));
+    }
+    if random.one_in(3) {
+        return story;
+    }
+    story.go_on_with(Event::Abort(0));
+    if random.one_in(2) {
+        story.go_on_with(Event::Abort(done + 1));
+    }
+    let undone = random.below(usize::from(done) + 1) as u16;
+    for step in (done - undone + 1..=done).rev() {
+        story.go_on_with(Event::Begin(steps + step));
+        story.go_on_with(Event::Commit(steps + step));
+    }
+    story
+}
+
+/// A story with an active undo or two, now and then with 256 operations too.
 fn story_with_active_undo(random: &mut Random) -> Option<Story> {
     let mut story = Story::new(tables_for(random, 17));
     let events = random.within(0..=15);
     story.go_on(random, events);
+    let wanted = random.within(1..=2);
     for _ in 0..60 {
-        if has_active_undo(&story.model) {
-            let full = !random.one_in(8) || story.fill_up(random);
-            return full.then_some(story);
+        if story.model.active_undos().len() >= wanted {
+            break;
         }
         story.move_sagas(random, 1);
     }
-    None
+    for undo in story.model.active_undos() {
+        // It works on something, so that others wait for it.
+        let object = random.below(story.model.objects.into()) as u16;
+        story.go_on_with(Event::Operation(
+            undo as u16,
+            object,
+            random.below(2) as u16,
+        ));
+    }
+    let full = !random.one_in(8) || story.fill_up(random);
+    (full && !story.model.active_undos().is_empty()).then_some(story)
 }
 
-fn has_active_undo(model: &Model) -> bool {
-    let sagas = model.sagas();
-    let mut undos = sagas
-        .iter()
-        .flat_map(|(saga, steps)| saga + steps + 1..saga + 2 * steps);
-    undos.any(|undo| model.phase(undo) == Phase::Active)
+/// A story in which the base of some entry has come to some phase and the
+/// dependent has begun, if it may. None if nothing is declared.
+fn story_of_an_entry(random: &mut Random) -> Option<Story> {
+    let mut story = Story::new(tables_for(random, 14));
+    let entries = &story.draft.tables.dependencies;
+    let [dependent, base, _] = match random.below(4) {
+        0 => *entries.last()?,
+        _ => random.pick(entries),
+    };
+    let ways = [
+        vec![],
+        vec![Event::Begin(base)],
+        vec![Event::Begin(base), Event::Commit(base)],
+        vec![Event::Begin(base), Event::Abort(base)],
+    ];
+    let way = random.below(ways.len());
+    if random.one_in(2) {
+        story.go_on_with(Event::Begin(dependent));
+    }
+    for event in &ways[way] {
+        story.go_on_with(*event);
+    }
+    story.go_on_with(Event::Begin(dependent));
+    Some(story)
 }
 
 /// A story that has hardly begun, but its plain transactions have.
@@ -120,37 +185,51 @@ fn two_of(random: &mut Random, from: &[usize]) -> Option<(u16, u16)> {
 }
 
 /// A story in which several transactions are tied one after another and the
-/// last back to the first, now and then through committed ones.
+/// last back to the first, now and then through committed ones or such as kept
+/// what they did and aborted.
 fn story_with_ring(random: &mut Random) -> Option<Story> {
     let mut story = story_with_plain_ones_begun(random, 16);
+    if random.one_in(8) {
+        story.fill_half_up(random);
+    }
     let mut members = story.model.active_delegating();
     let length = random.within(2..=6);
     while members.len() > length {
         members.swap_remove(random.below(members.len()));
     }
-    for link in members.windows(2) {
-        tie(random, &mut story, link[0], link[1]);
+    let objects = random.shuffled((0..story.model.objects).collect());
+    let object_of = |link: usize| objects[link % objects.len()];
+    for (place, link) in members.windows(2).enumerate() {
+        tie(random, &mut story, link[0], link[1], object_of(place));
     }
     let (first, last) = (*members.first()?, *members.last()?);
     match members.as_slice() {
         [_, between @ .., _] if !between.is_empty() && random.one_in(2) => {
             let last_operation = story.model.operations.len().checked_sub(1)?;
             for t in between {
+                if random.one_in(3) {
+                    story.keep_and_give_up(*t as u16);
+                }
                 story.go_on_with(Event::Commit(*t as u16));
             }
             let handed = Event::Delegate(last as u16, first as u16, last_operation as u16);
             story.go_on_with(handed);
         }
-        _ => tie(random, &mut story, last, first),
+        _ => tie(
+            random,
+            &mut story,
+            last,
+            first,
+            object_of(members.len() - 1),
+        ),
     }
     Some(story)
 }
 
-/// Ties one transaction before another on some object, and now and then keeps
+/// Ties one transaction before another on the object, and now and then keeps
 /// one of the two operations alone.
-fn tie(random: &mut Random, story: &mut Story, earlier: usize, later: usize) {
+fn tie(random: &mut Random, story: &mut Story, earlier: usize, later: usize, object: u16) {
     let (earlier, later) = (earlier as u16, later as u16);
-    let object = random.below(story.model.objects.into()) as u16;
     let mark = random.below(2) as u16;
     let first = story.model.operations.len() as u16;
     story.go_on_with(Event::Operation(earlier, object, mark));

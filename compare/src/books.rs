@@ -84,19 +84,19 @@ fn strayed(random: &mut Random) -> Made {
 
 fn aimed(random: &mut Random) -> Made {
     const AIMS: [(usize, u8, &str); 13] = [
-        (1, 8, "aimed at 8"),
+        (2, 8, "aimed at 8"),
         (1, 9, "aimed at 9"),
         (1, 10, "aimed at 10"),
         (1, 11, "aimed at 11"),
         (1, 12, "aimed at 12"),
         (4, 13, "aimed at 13"),
-        (2, 14, "aimed at 14"),
+        (3, 14, "aimed at 14"),
         (3, 15, "aimed at 15"),
         (2, 16, "aimed at 16"),
         (1, 17, "aimed at 17"),
         (1, 18, "aimed at 18"),
         (1, 20, "aimed at 20"),
-        (4, 22, "aimed at 22"),
+        (5, 22, "aimed at 22"),
     ];
     let chosen = random.weighted(AIMS.iter().map(|(weight, ..)| *weight));
     let (_, number, kind) = AIMS[chosen];
@@ -119,7 +119,8 @@ fn shortest(_: &mut Random) -> Made {
 pub fn field_list(seed: u64, index: u64) -> Vec<u16> {
     // Lists are drawn apart from the books of the same seed.
     let mut random = Random::new(!seed, index);
-    if index % LONG_ONES == LONG_ONES - 1 {
+    // Lists are asked for every fourth index only.
+    if index % LONG_ONES == LONG_ONES - 4 {
         return long_list(&mut random);
     }
     let mut fields = good_fields(&mut random);
@@ -207,7 +208,7 @@ mod tests {
 
     #[test]
     fn the_same_seed_makes_the_same() {
-        for index in (0..300).chain([499, 999]) {
+        for index in (0..300).chain([496, 499, 999]) {
             assert_eq!(book(7, index), book(7, index));
             assert_eq!(field_list(7, index), field_list(7, index));
         }
@@ -236,6 +237,7 @@ mod tests {
             "deep" | "full of operations" | "torn between events" | "shortest" => Some(0),
             "empty" | "torn in the tables" | "torn inside a number" => Some(2),
             "torn between fields" | "torn after an event code" => Some(2),
+            "torn behind an unknown transaction" | "torn in a bad dependency" => Some(2),
             "too long" => Some(1),
             "number in a bad form" | "value above 65" => Some(3),
             "bad edition" => Some(4),
@@ -274,7 +276,7 @@ mod tests {
         }
         let of_long_ones = |kind: &str| kind.starts_with("too long") || kind.starts_with("longest");
         let known = kinds.keys().filter(|kind| !of_long_ones(kind)).count();
-        assert_eq!(known, 67);
+        assert_eq!(known, 69);
     }
 
     #[test]

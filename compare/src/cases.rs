@@ -1,20 +1,9 @@
-//! Cases to ask two programs, how they are asked, and what the second program
-//! answers.
+//! Cases to ask two programs, and how they are asked.
 
+use crate::answers::Case;
 use crate::books::{book, field_list};
-use std::fmt::Write;
 
 const MOST_ROOM: usize = 65_536;
-
-/// What is asked: a book to be read, or fields to be written, and the size of
-/// the lent room; or a book to be read with circles permitted in its tables,
-/// which takes no room.
-#[derive(Clone, Debug, PartialEq, Eq)]
-pub enum Case {
-    Book(Vec<u8>, usize),
-    Fields(Vec<u16>, usize),
-    CirclesBook(Vec<u8>),
-}
 
 impl Case {
     fn letter(&self) -> u8 {
@@ -36,15 +25,6 @@ impl Case {
         match self {
             Case::Book(book, _) | Case::CirclesBook(book) => book.clone(),
             Case::Fields(fields, _) => fields.iter().flat_map(|f| f.to_le_bytes()).collect(),
-        }
-    }
-
-    /// What the second program answers.
-    pub fn answer(&self) -> Vec<u8> {
-        match self {
-            Case::Book(book, room) => book_answer(book, *room),
-            Case::Fields(fields, room) => write_answer(fields, *room),
-            Case::CirclesBook(book) => circles_book_answer(book),
         }
     }
 }
@@ -71,68 +51,6 @@ pub fn question(cases: &[Case]) -> Vec<u8> {
 /// The line that stands before the answer to a case.
 pub fn heading(index: usize) -> Vec<u8> {
     format!("== case {index}\n").into_bytes()
-}
-
-fn refused_line(refused: second::Refused) -> String {
-    format!(
-        "refused {} {} {}\n",
-        refused.number, refused.events, refused.place
-    )
-}
-
-const PUT: &str = "a text takes every line";
-
-fn book_answer(book: &[u8], room: usize) -> Vec<u8> {
-    let mut text = second::listing(book);
-    put_opening(&mut text, second::opening(book));
-    put_report(&mut text, &second::report(&second::read(book)));
-    let mut fields = vec![0; room];
-    match second::unpack(book, &mut fields) {
-        Ok(count) => {
-            writeln!(text, "unpacked {count}").expect(PUT);
-            for field in &fields[..count] {
-                writeln!(text, "{field}").expect(PUT);
-            }
-        }
-        Err(refused) => text += &refused_line(refused),
-    }
-    text.into_bytes()
-}
-
-fn circles_book_answer(book: &[u8]) -> Vec<u8> {
-    let mut text = second::listing_circles_permitted(book);
-    put_opening(&mut text, second::opening_circles_permitted(book));
-    put_report(
-        &mut text,
-        &second::report(&second::read_circles_permitted(book)),
-    );
-    text.into_bytes()
-}
-
-fn put_opening(text: &mut String, opening: &[u8]) {
-    writeln!(text, "opening {}", opening.len()).expect(PUT);
-}
-
-fn put_report(text: &mut String, report: &second::Report) {
-    writeln!(text, "active {} lowest {}", report.active, report.lowest).expect(PUT);
-    for (earlier, row) in report.pairs.iter().enumerate() {
-        for later in (0..64).filter(|later| row >> later & 1 == 1) {
-            writeln!(text, "{earlier} {later}").expect(PUT);
-        }
-    }
-}
-
-fn write_answer(fields: &[u16], room: usize) -> Vec<u8> {
-    let mut bytes = vec![0; room];
-    match second::write(fields, &mut bytes) {
-        Ok(count) => {
-            let mut answer = format!("written {count}\n").into_bytes();
-            answer.extend_from_slice(&bytes[..count]);
-            answer.push(b'\n');
-            answer
-        }
-        Err(refused) => refused_line(refused).into_bytes(),
-    }
 }
 
 /// The cases of a seed: books, and a list of fields after every fourth. Every

@@ -22,7 +22,7 @@ pub fn torn(random: &mut Random) -> Made {
     let tables = draft.tables.fields().len();
     let starts = draft.event_starts();
     let upto = |field: usize| encode(&fields[..field]);
-    match random.below(5) {
+    match random.below(6) {
         0 => {
             let bytes = upto(tables);
             let end = random.below(bytes.len());
@@ -42,6 +42,12 @@ pub fn torn(random: &mut Random) -> Made {
             made(bytes, "torn between fields")
         }
         3 => made(upto(random.pick(&starts)), "torn between events"),
+        4 => {
+            let mut bytes = upto(random.pick(&starts));
+            let unknown = random.pick(&[64, 127, 128, u16::MAX]);
+            bytes.extend(encode(&[random.within(4..=7) as u16, unknown]));
+            made(bytes, "torn behind an unknown transaction")
+        }
         _ => made(upto(random.pick(&starts) + 1), "torn after an event code"),
     }
 }
@@ -50,11 +56,12 @@ pub fn torn(random: &mut Random) -> Made {
 pub fn overlong(random: &mut Random) -> Made {
     let mut pieces = pieces(&short_story(random).draft);
     let field = random.below(pieces.len());
-    pieces[field] = match random.below(5) {
+    pieces[field] = match random.below(6) {
         0 => vec![0x80, 0x00],
         1 => vec![0x80, 0x80, 0x00],
         2 => vec![0x80, 0x80, 0x80],
         3 => vec![0xFF, 0xFF, 0x04],
+        4 => vec![random.byte() | 0x80, random.byte() | 0x80, 0x81],
         _ => stretched(&pieces[field]),
     };
     made(pieces.concat(), "number in a bad form")
@@ -74,7 +81,10 @@ pub fn above_the_highest_value(random: &mut Random) -> Made {
     let mut pieces = pieces(&short_story(random).draft);
     let field = random.below(pieces.len());
     let third = random.within(0x04..=0x7F) as u8;
-    pieces[field] = vec![random.byte() | 0x80, random.byte() | 0x80, third];
+    pieces[field] = match random.below(3) {
+        0 => vec![0x80, 0x80, 0x04],
+        _ => vec![random.byte() | 0x80, random.byte() | 0x80, third],
+    };
     made(pieces.concat(), "value above 65,535")
 }
 
@@ -171,6 +181,12 @@ pub fn bad_dependency(random: &mut Random) -> Made {
     };
     let (kind, bad) = bad_entries(random, &tables);
     tables.dependencies = bad;
+    if random.one_in(8) {
+        let fields = tables.fields();
+        let left_out = random.within(1..=2);
+        let bytes = encode(&fields[..fields.len() - left_out]);
+        return made(bytes, "torn in a bad dependency");
+    }
     let mut bytes = encode(&tables.fields());
     for _ in 0..random.below(4) {
         bytes.extend([1, random.below(4) as u8]);
@@ -203,8 +219,8 @@ fn bad_entries(random: &mut Random, tables: &Tables) -> (&'static str, Vec<[u16;
         }
         7 => ("dependency: step as base", vec![[low, step, kind]]),
         8 => ("dependency: undo as base", vec![[low, undo, kind]]),
-        9 => ("dependency: step as dependent", vec![[step, low, to_begin]]),
-        10 => ("dependency: undo as dependent", vec![[undo, low, to_begin]]),
+        9 => ("dependency: step as dependent", vec![[step, low, kind]]),
+        10 => ("dependency: undo as dependent", vec![[undo, low, kind]]),
         11 => (
             "dependency: saga may not depend so",
             vec![[saga, low, to_commit]],
@@ -234,7 +250,7 @@ pub fn bad_edition(random: &mut Random) -> Made {
     let mut fields = short_story(random).draft.fields();
     fields[0] = match random.below(3) {
         0 => 0,
-        1 => 2,
+        1 => random.pick(&[2, 257]),
         _ => random.field().max(2),
     };
     made(encode(&fields), "bad edition")

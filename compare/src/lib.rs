@@ -2,6 +2,7 @@
 //! that read books can be run on the same ones and compared.
 
 mod aim;
+pub mod answers;
 mod barred;
 pub mod books;
 pub mod cases;

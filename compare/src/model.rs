@@ -53,6 +53,12 @@ pub enum Circumstance {
     /// Whether the one that gets an operation has nothing to do with the
     /// objects of active undos.
     FarFromUndos(bool),
+    /// Whether an active undo would be on a ring.
+    Bars(bool),
+    /// The sort of one that an undo has to wait for.
+    WaitsFor(&'static str),
+    /// The code of an event, and for each field behind it whether it is known.
+    Unknown(u16, [bool; 3]),
 }
 
 /// At most this many operations are accepted in a book.
@@ -183,18 +189,23 @@ impl Model {
     }
 
     fn is_known(&self, event: Event) -> bool {
+        self.known_fields(event) == [true; 3]
+    }
+
+    /// For each field behind the code, whether what it names is there.
+    fn known_fields(&self, event: Event) -> [bool; 3] {
         let transaction = |t: u16| usize::from(t) < self.transactions();
         let accepted = |operation: u16| usize::from(operation) < self.operations.len();
         match event {
-            Event::Begin(t) | Event::Commit(t) | Event::Abort(t) => transaction(t),
-            Event::Operation(t, object, mark) => {
-                transaction(t) && object < self.objects && mark < 2
-            }
-            Event::Delegate(giver, receiver, operation) => {
-                transaction(giver) && transaction(receiver) && accepted(operation)
-            }
+            Event::Begin(t) | Event::Commit(t) | Event::Abort(t) => [transaction(t), true, true],
+            Event::Operation(t, object, mark) => [transaction(t), object < self.objects, mark < 2],
+            Event::Delegate(giver, receiver, operation) => [
+                transaction(giver),
+                transaction(receiver),
+                accepted(operation),
+            ],
             Event::CommitOperation(t, operation) | Event::AbortOperation(t, operation) => {
-                transaction(t) && accepted(operation)
+                [transaction(t), accepted(operation), true]
             }
         }
     }
@@ -279,11 +290,7 @@ impl Model {
         if self.phases[t] != Phase::Active {
             return 11;
         }
-        let must_wait = |p: usize| {
-            let earlier = &self.operations[p];
-            earlier.phase == Phase::Active && earlier.responsible != t
-        };
-        if self.is_undo(t) && self.conflicts(object, writes).any(must_wait) {
+        if self.must_wait_for(t, object, writes).is_some() {
             17
         } else if self.bars_an_undo(Event::Operation(t as u16, object, writes.into())) {
             22
@@ -292,6 +299,16 @@ impl Model {
         } else {
             0
         }
+    }
+
+    /// One that has to end before an undo may work on the object.
+    fn must_wait_for(&self, t: usize, object: u16, writes: bool) -> Option<usize> {
+        let conflicting = self.conflicts(object, writes).map(|p| &self.operations[p]);
+        let mut of_others = conflicting.filter(|p| p.phase == Phase::Active && p.responsible != t);
+        of_others
+            .next()
+            .filter(|_| self.is_undo(t))
+            .map(|p| p.responsible)
     }
 
     fn verdict_on_delegation(&self, giver: usize, receiver: usize, operation: usize) -> u8 {
@@ -454,7 +471,7 @@ impl Model {
     pub fn circumstances(&self, event: Event) -> Vec<Circumstance> {
         use Circumstance::*;
         if !self.is_known(event) {
-            return Vec::new();
+            return vec![Unknown(event.fields()[0], self.known_fields(event))];
         }
         match event {
             Event::Begin(t) => {
@@ -473,15 +490,21 @@ impl Model {
                 [self.around(t), on_commit.collect()].concat()
             }
             Event::Abort(t) => self.around(usize::from(t)),
-            Event::Operation(t, object, _) => vec![
-                Of(self.sorts[usize::from(t)].name()),
-                Full(self.is_full()),
-                FarFromUndos(self.is_far_from_undos(t.into(), object)),
-            ],
+            Event::Operation(t, object, mark) => {
+                let waits_for = self.must_wait_for(t.into(), object, mark == 1);
+                let waits_for = waits_for.map(|other| WaitsFor(self.sorts[other].name()));
+                let looked_at = [
+                    Of(self.sorts[usize::from(t)].name()),
+                    Full(self.is_full()),
+                    FarFromUndos(self.is_far_from_undos(t.into(), object)),
+                    Bars(self.bars_an_undo(event)),
+                ];
+                looked_at.into_iter().chain(waits_for).collect()
+            }
             Event::Delegate(giver, receiver, operation) => {
                 let Operation { phase, object, .. } = self.operations[usize::from(operation)];
                 let far = FarFromUndos(self.is_far_from_undos(receiver.into(), object));
-                let handed = vec![In(phase), far];
+                let handed = vec![In(phase), far, Bars(self.bars_an_undo(event))];
                 [self.acting(giver), self.acting(receiver), handed].concat()
             }
             Event::CommitOperation(t, operation) => {

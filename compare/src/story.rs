@@ -150,6 +150,22 @@ impl Story {
         true
     }
 
+    /// Goes on until more than half of the 256 operations are accepted, or nothing
+    /// comes of it.
+    pub fn fill_half_up(&mut self, random: &mut Random) {
+        while self.model.operations.len() < 130 && self.go_on_once(random, FILLING) {}
+    }
+
+    /// A plain transaction keeps all it has done and aborts.
+    pub fn keep_and_give_up(&mut self, t: u16) {
+        for operation in self.model.operations_to_end_alone() {
+            if self.model.operations[operation].responsible == usize::from(t) {
+                self.go_on_with(Event::CommitOperation(t, operation as u16));
+            }
+        }
+        self.go_on_with(Event::Abort(t));
+    }
+
     /// Adds an event whatever becomes of it.
     pub fn stray(&mut self, random: &mut Random) {
         let code = random.within(1..=7);
@@ -235,7 +251,7 @@ fn forth(random: &mut Random, model: &Model, saga: usize, steps: usize) -> Event
     match next.map(|step| (step as u16, model.phase(step))) {
         None => Event::Commit(saga as u16),
         Some((step, Phase::Idle)) => Event::Begin(step),
-        Some((step, Phase::Active)) if random.one_in(20) => Event::Abort(step),
+        Some((step, Phase::Active)) if random.one_in(12) => Event::Abort(step),
         Some((step, Phase::Active)) => Event::Commit(step),
         Some(_) => Event::Abort(saga as u16),
     }
@@ -276,25 +292,25 @@ pub fn wild_event(random: &mut Random, model: &Model, code: usize) -> Event {
             wild_field(random, model.objects.into()),
             wild_field(random, 2),
         ),
-        5 => Event::Delegate(
-            transaction(),
-            transaction(),
-            wild_field(random, model.operations.len()),
-        ),
+        5 => {
+            let receiver = transaction();
+            let (giver, operation) = wild_own(random, model);
+            Event::Delegate(giver, receiver, operation)
+        }
         6 => {
-            let (t, operation) = wild_end(random, model);
+            let (t, operation) = wild_own(random, model);
             Event::CommitOperation(t, operation)
         }
         _ => {
-            let (t, operation) = wild_end(random, model);
+            let (t, operation) = wild_own(random, model);
             Event::AbortOperation(t, operation)
         }
     }
 }
 
-/// A transaction and an operation that it is to end alone. Every other time it
-/// is the one that answers for it.
-fn wild_end(random: &mut Random, model: &Model) -> (u16, u16) {
+/// A transaction and an operation that it is to hand on or to end alone. Every
+/// other time it is the one that answers for it.
+fn wild_own(random: &mut Random, model: &Model) -> (u16, u16) {
     let operation = wild_field(random, model.operations.len());
     let t = match model.operations.get(usize::from(operation)) {
         Some(operation) if random.one_in(2) => operation.responsible as u16,
@@ -303,22 +319,16 @@ fn wild_end(random: &mut Random, model: &Model) -> (u16, u16) {
     (t, operation)
 }
 
-/// Mostly a number below the limit.
+/// Mostly a number below the limit, else often the one just above.
 fn wild_field(random: &mut Random, limit: usize) -> u16 {
     if limit > 0 && !random.one_in(25) {
         return random.below(limit) as u16;
     }
     let just_above = limit as u16;
-    let outside = [
-        just_above,
-        just_above + 1,
-        64,
-        127,
-        128,
-        256,
-        16_384,
-        u16::MAX,
-    ];
+    if random.one_in(2) {
+        return just_above;
+    }
+    let outside = [just_above + 1, 64, 127, 128, 256, 16_384, u16::MAX];
     random.pick(&outside)
 }
 

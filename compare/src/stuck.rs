@@ -77,6 +77,9 @@ fn commit_kind(random: &mut Random) -> u16 {
 /// Tables with a ring of begin dependencies, now and then with others beside
 /// them, and the ring.
 fn never_moving_tables(random: &mut Random) -> (Tables, Ring) {
+    if random.one_in(15) {
+        return full_tables(random);
+    }
     let (mut tables, ring) = tables_and_ring(random);
     let plain = plain_numbers(&tables);
     let mut entries = Vec::new();
@@ -88,6 +91,27 @@ fn never_moving_tables(random: &mut Random) -> (Tables, Ring) {
     }
     take_in(random, &mut tables, &entries);
     (tables, ring)
+}
+
+/// Tables with as many entries as there may be, of which the last two close a
+/// ring.
+fn full_tables(random: &mut Random) -> (Tables, Ring) {
+    let mut tables = Tables {
+        plain: random.within(8..=12) as u16,
+        objects: random.below(4) as u16,
+        ..Tables::default()
+    };
+    let last = tables.plain - 1;
+    let others = (0..last - 1).flat_map(|dependent| {
+        let bases = (0..=last).filter(move |base| *base != dependent);
+        bases.flat_map(move |base| [1, 2, 3].map(|kind| [dependent, base, kind]))
+    });
+    tables.dependencies = others.take(MOST_DEPENDENCIES - 2).collect();
+    for (dependent, base) in [(last - 1, last), (last, last - 1)] {
+        let entry = [dependent, base, begin_kind(random)];
+        tables.dependencies.push(entry);
+    }
+    (tables, Ring(vec![last - 1, last]))
 }
 
 /// Tables in which a ring of dependencies is closed by one of kinds 1 to 3,

@@ -13,11 +13,15 @@ const WRITE: u16 = 1;
 const DRAWS: usize = 1500;
 
 /// A story in which clerks stand before an active undo and others after it,
-/// now and then with 256 operations. None if no undo comes to begin, or too few
+/// now and then with another undo at work, and with 256 operations. None if no undo comes to begin, or too few
 /// clerks do.
 pub fn story_around_an_undo(random: &mut Random) -> Option<Story> {
     let mut story = Story::new(tables_for(random, 22));
     let undo = begin_some_undo(random, &mut story)?;
+    let other_undo = match random.below(5) {
+        0 => begin_some_undo(random, &mut story),
+        _ => None,
+    };
     for t in plain_numbers(&story.draft.tables) {
         story.go_on_with(Event::Begin(t));
     }
@@ -30,19 +34,25 @@ pub fn story_around_an_undo(random: &mut Random) -> Option<Story> {
     let [read_by_all, undone, written, last_list] =
         [0, 1, 2, 3].map(|i| objects[i % objects.len()]);
 
+    if let Some(other) = other_undo {
+        story.go_on_with(Event::Operation(other, read_by_all, READ));
+    }
     if random.one_in(2) {
         stand_before(random, &mut story, before, undone);
     } else {
         story.go_on_with(Event::Operation(before, read_by_all, READ));
         story.go_on_with(Event::Operation(between, read_by_all, WRITE));
         story.go_on_with(Event::Operation(between, undone, WRITE));
+        if random.one_in(3) {
+            story.keep_and_give_up(between);
+        }
         story.go_on_with(Event::Commit(between));
     }
     story.go_on_with(Event::Operation(undo, undone, WRITE));
     story.go_on_with(Event::Operation(undo, written, WRITE));
     stand_after(random, &mut story, after, written, last_list);
-    if random.one_in(2) {
-        let worked_on = random.pick(&[written, last_list]);
+    if !random.one_in(4) {
+        let worked_on = random.pick(&[written, last_list, last_list]);
         story.go_on_with(Event::Operation(last, worked_on, random.below(2) as u16));
     }
     let filled = !random.one_in(3) || fill_up_around_an_undo(random, &mut story);

@@ -1,7 +1,8 @@
 //! Asks a program the fixed cases and those of a seed, and holds its answers
 //! against the second program's.
 
-use compare::cases::{fixed, heading, made, question, Case};
+use compare::answers::Case;
+use compare::cases::{fixed, heading, made, question};
 use std::ffi::OsString;
 use std::fs;
 use std::io::{self, Read, Write};
@@ -9,12 +10,13 @@ use std::process::{Command, ExitCode, Stdio};
 use std::thread;
 
 const USAGE: &str =
-    "usage: agree FIXED SEED COUNT PROGRAM [WORDS..]\n       agree --store FIXED QUESTION ANSWER";
+    "usage: agree FIXED SEED COUNT PROGRAM [WORDS..]\n       agree --store FIXED QUESTION ANSWER\n       agree --ask FIXED SEED COUNT QUESTION";
 
 fn main() -> ExitCode {
     let words: Vec<OsString> = std::env::args_os().skip(1).collect();
     let done = match words.first().and_then(|word| word.to_str()) {
         Some("--store") => store(&words[1..]),
+        Some("--ask") => ask(&words[1..]),
         _ => run(&words),
     };
     match done {
@@ -40,13 +42,30 @@ fn store(words: &[OsString]) -> Result<String, String> {
     Ok(format!("{} cases stored", cases.len()))
 }
 
+/// Writes the cases of a comparison as a program is asked them, and says how
+/// many are fixed and how many there are.
+fn ask(words: &[OsString]) -> Result<String, String> {
+    let [source, seed, count, asked] = words else {
+        return Err(USAGE.to_string());
+    };
+    let fixed = fixed_cases(source)?.len();
+    let cases = all_cases(source, number(seed)?, number(count)?)?;
+    write_file(asked, &question(&cases))?;
+    Ok(format!("{fixed} {}", cases.len()))
+}
+
+fn all_cases(source: &OsString, seed: u64, count: u64) -> Result<Vec<Case>, String> {
+    let mut cases = fixed_cases(source)?;
+    cases.extend(made(seed, count));
+    Ok(cases)
+}
+
 fn run(words: &[OsString]) -> Result<String, String> {
     let [source, seed, count, program @ ..] = words else {
         return Err(USAGE.to_string());
     };
     let (seed, count) = (number(seed)?, number(count)?);
-    let mut cases = fixed_cases(source)?;
-    cases.extend(made(seed, count));
+    let cases = all_cases(source, seed, count)?;
     let answers = answers_of(program, question(&cases))?;
     compare(&cases, &answers)?;
     Ok(format!(

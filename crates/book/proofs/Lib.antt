@@ -6,6 +6,9 @@ pub mod LongestLaws
 pub mod BehindLaws
 pub mod RunLaws
 pub mod WholeLaws
+pub mod TablesBackLaws
 pub mod PackingLaws
+pub mod EdgeLaws
 pub mod PlaceLaws
+pub mod AnsweredLaws
 pub mod DemandsHold

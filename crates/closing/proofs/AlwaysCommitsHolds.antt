@@ -5,6 +5,9 @@ use mathlib.Core.Bool.{true, false}
 use mathlib.Core.List.{List}
 use Rattle.laws.proofs.Bools.{clash, on-and}
 use Rattle.terms.specs.declared.Event.{Event}
+use Rattle.terms.specs.declared.Event.the-variants.{Commit}
+use Rattle.terms.specs.declared.Verdict.the-variants.{Accepted}
+use Rattle.judge.specs.Judge.{judged}
 use Rattle.tables.specs.Accepted.{Well}
 use Rattle.tables.specs.Reading.{tablesBy}
 use Rattle.tables.specs.Sorts.{isSaga, isUndo, sortOf}
@@ -12,14 +15,14 @@ use Rattle.tables.specs.declared.Sort.{Sort}
 use Rattle.tables.specs.declared.Sort.the-variants.{Saga, Step, Undo, Plain, Unknown}
 use Rattle.tables.specs.declared.Tables.{Tables}
 use Rattle.tables.proofs.AcceptedWellHolds.{accepted-well}
-use Rattle.rules.specs.Rules.{commitBarred}
+use Rattle.rules.specs.Rules.{activeUndo, commitBarred}
 use Rattle.rules.specs.States.{emptyState, isActive, phaseOf}
 use Rattle.rules.proofs.PhaseLaws.{active-is}
 use Rattle.histories.specs.Histories.{reached}
-use Rattle.histories.proofs.Steps.{keeps-by}
+use Rattle.histories.proofs.Steps.{ending, keeps-by, step}
 use Rattle.closing.specs.Committing.{AlwaysCommits, Commits}
 use Rattle.closing.proofs.ClosingAccepted.{saga-commits, undo-commits}
-use Rattle.closing.proofs.UndoTies.{Tidy, tidy-kept, tidy-start}
+use Rattle.closing.proofs.UndoTies.{Tidy, saga-not-dirty, saga-off-rings, tidy-kept, tidy-start}
 
 -- the numbers of an undo, and those of an S
 by-undo : {A : Type 0} (x : Sort) → isUndo x ≡ true → ((f n j : ℕ) → x ≡ Undo f n j → A) → A
@@ -39,16 +42,21 @@ by-saga Unknown h go = clash h refl
 commits : (tables : Tables) → Well tables → (es : List Event) → Commits tables es
 commits tables well es =
     record {
-      undo = λ u a.
-          let x = on-and (isUndo (sortOf tables u)) (isActive (phaseOf (reached tables es .transactions) u)) a in
-          by-undo (sortOf tables u) (x .0) (λ f n j e. undo-commits tables well (reached tables es) tidy u f n j e (active-is (phaseOf (reached tables es .transactions) u) (x .1)));
+      undo = accepted;
       saga = λ t h a done.
           by-saga (sortOf tables t) h
           (λ f n e. saga-commits tables well (reached tables es) tidy t f n e (active-is (phaseOf (reached tables es .transactions) t) a) (subst (λ (x : Sort). commitBarred (reached tables es .transactions) x ≡ false) e done));
+      saga-free = λ t h. (saga-not-dirty tables (reached tables es) tidy t h, saga-off-rings tables (reached tables es) tidy t h);
+      undo-free = λ u a. let rule = ending tables (reached tables es) (step tables (reached tables es) (Commit u) (accepted u a)) .rule in (rule .2, rule .3);
     }
   where
     tidy : Tidy tables (reached tables es)
     tidy = keeps-by tables (Tidy tables) (tidy-kept tables) es emptyState (tidy-start tables)
+
+    accepted : (u : ℕ) → activeUndo tables (reached tables es .transactions) u ≡ true → judged tables (reached tables es) (Commit u) .verdict ≡ Accepted
+    accepted u a =
+        let x = on-and (isUndo (sortOf tables u)) (isActive (phaseOf (reached tables es .transactions) u)) a in
+        by-undo (sortOf tables u) (x .0) (λ f n j e. undo-commits tables well (reached tables es) tidy u f n j e (active-is (phaseOf (reached tables es .transactions) u) (x .1)))
 
 pub always-commits : AlwaysCommits
 always-commits circles cap s at e es = commits (tablesBy circles cap s .tables) (accepted-well circles cap s at e) es

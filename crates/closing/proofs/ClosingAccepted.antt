@@ -32,7 +32,7 @@ use Rattle.rules.specs.declared.Phase.the-variants.{Aborted, Active, Committed}
 use Rattle.rules.specs.declared.State.{State}
 use Rattle.rules.specs.declared.Transaction.{Transaction}
 use Rattle.rules.proofs.PhaseLaws.{code, committed-is, not-active, not-committed, of-aborted, of-active, of-committed, of-idle}
-use Rattle.histories.proofs.RunLaws.{off-lines}
+use Rattle.judge.proofs.EventLaws.{off-lines}
 use Rattle.rules.proofs.StateLaws.{entered-other, entered-same}
 use Rattle.closing.proofs.Moves.{Move, Moved, abort-saga, abort-step, begin-saga, begin-step, begin-undo, commit-saga, commit-step, commit-undo, movedAt, movedTo}
 use Rattle.closing.proofs.OutstandingLaws.{Safe, moveEvent}

@@ -26,7 +26,8 @@ use Rattle.rules.specs.declared.Phase.{Phase}
 use Rattle.rules.specs.declared.Phase.the-variants.{Aborted, Active, Committed, Idle}
 use Rattle.rules.specs.declared.State.{State}
 use Rattle.rules.proofs.PhaseLaws.{code}
-use Rattle.histories.proofs.RunLaws.{next-ok, run-append, taken-append}
+use Rattle.judge.proofs.EventLaws.{next-ok}
+use Rattle.histories.proofs.RunLaws.{run-append, taken-append}
 use Rattle.histories.proofs.Steps.{keeps-by}
 use Rattle.histories.proofs.Touches.{phased, rises}
 use Rattle.closing.specs.Closing.{closing, eventOf, outstanding, ownOf, settled}

@@ -31,7 +31,8 @@ use Rattle.rules.specs.declared.Phase.the-variants.{Aborted, Active, Committed,
 use Rattle.rules.specs.declared.State.{State}
 use Rattle.rules.proofs.PhaseLaws.{code-inj}
 use Rattle.histories.proofs.Steps.{step}
-use Rattle.histories.proofs.RunLaws.{by-verdict, keeps, next-ok, run-no, run-none, run-ok}
+use Rattle.judge.proofs.EventLaws.{by-verdict, next-ok}
+use Rattle.histories.proofs.RunLaws.{keeps, run-no, run-none, run-ok}
 use Rattle.closing.specs.Closing.{activeStep, backStep, closing, closingBy, eventOf, isListed, nextUndo, outstanding, outstandingBy, owed, ownOf, settled, toUndo}
 use Rattle.closing.specs.Demand.{Beginning, Closes, Demand, Demand3, Demand3Read, allForeign, backRun, commitsOf, foreign, mine, wholeRun}
 use Rattle.closing.proofs.Acts.{Acts, acts, mine-on, moved, quiet}

@@ -12,3 +12,4 @@ pub mod AlwaysCommitsHolds
 pub mod Demand3Holds
 pub mod ClosingSettlesHolds
 pub mod SettledRunsHold
+pub mod AttainedHolds

@@ -16,7 +16,8 @@ use Rattle.histories.proofs.Invariants.{lasting-kept, lasting-start}
 use Rattle.histories.proofs.Lasts.{Lasting}
 use Rattle.rules.proofs.PhaseLaws.{code}
 use Rattle.histories.proofs.Steps.{step}
-use Rattle.histories.proofs.RunLaws.{by-verdict, keeps, run-no, run-ok, taken-no, taken-ok}
+use Rattle.judge.proofs.EventLaws.{by-verdict}
+use Rattle.histories.proofs.RunLaws.{keeps, run-no, run-ok, taken-no, taken-ok}
 use Rattle.rules.proofs.StateLaws.{all-idle}
 use Rattle.closing.specs.Demand.{commitsOf}
 use Rattle.closing.proofs.Acts.{Acts, acts, inv-same, move-commits, moved, quiet, shape-same}

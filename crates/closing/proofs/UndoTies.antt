@@ -191,6 +191,18 @@ saga-off-rings tables s tidy t e =
     let w = between (size (s .ops)) (opAt (s .ops)) a t h in
     clash (ap (λ (x : ℕ). isSaga (sortOf tables x)) (w .second) ∙ e) (tidy .free (w .q) (omega (arith, w .below, size-count s (tidy .off-rings .ends .lasts))))))
 
+-- nor has it read anything
+pub saga-not-dirty : (tables : Tables) (s : State) → Tidy tables s → (t : ℕ) → isSaga (sortOf tables t) ≡ true → dirty (s .ops) t ≡ false
+unfolding dirty dirtyAt
+saga-not-dirty tables s tidy t e =
+    any-off (size (s .ops)) (λ j. readBy t (opAt (s .ops) j) && anyBelow j (λ i. dirties t (opAt (s .ops) j) j (opAt (s .ops) i)))
+    (λ j l.
+    and-off (readBy t (opAt (s .ops) j)) (anyBelow j (λ i. dirties t (opAt (s .ops) j) j (opAt (s .ops) i)))
+    (λ r.
+    let q = opAt (s .ops) j in
+    let his = eqb-true (q .responsible) t (on-and (eqb (q .responsible) t) (not (isWrite (q .mark)) && not (isAbortedOp (q .fate))) r .0) in
+    clash (ap (λ (x : ℕ). isSaga (sortOf tables x)) his ∙ e) (tidy .free j (omega (arith, size-count s (tidy .off-rings .ends .lasts))))))
+
 -- an active transaction that is not plain and read nothing of another's but what is committed has no dirty read: its own is active still
 pub not-dirty : (tables : Tables) (s : State) (t : ℕ) → Together tables s → isPlain (sortOf tables t) ≡ false → code (phaseOf (s .transactions) t) ≡ 1
     → Alone s t → dirty (s .ops) t ≡ false

@@ -6,6 +6,7 @@ use mathlib.Core.List.{List}
 use Rattle.terms.specs.declared.Event.{Event}
 use Rattle.terms.specs.declared.Event.the-variants.{Commit}
 use Rattle.terms.specs.declared.Verdict.the-variants.{Accepted}
+use Rattle.ties.specs.Ties.{dirty, onRing}
 use Rattle.tables.specs.Reading.{tablesBy}
 use Rattle.tables.specs.Sorts.{isSaga, sortOf}
 use Rattle.tables.specs.declared.Circles.{Circles}
@@ -23,6 +24,10 @@ pub record Commits (tables : Tables) (es : List Event) : Type 0 where
   -- an active S is barred by nothing but its steps: no dependency, no dirty read, no ring
   pub saga : (t : ℕ) → isSaga (sortOf tables t) ≡ true → isActive (phaseOf (reached tables es .transactions) t) ≡ true
       → commitBarred (reached tables es .transactions) (sortOf tables t) ≡ false → judged tables (reached tables es) (Commit t) .verdict ≡ Accepted
+  -- nothing is ever S's, so it has no dirty read and is on no ring; nor has or is an active undo
+  pub saga-free : (t : ℕ) → isSaga (sortOf tables t) ≡ true → (dirty (reached tables es .ops) t ≡ false) × (onRing (reached tables es .ops) t ≡ false)
+  pub undo-free : (u : ℕ) → activeUndo tables (reached tables es .transactions) u ≡ true
+      → (dirty (reached tables es .ops) u ≡ false) × (onRing (reached tables es .ops) u ≡ false)
 
 -- for all tables that reading accepts, and whatever the events
 abbrev pub AlwaysCommits : Type 0

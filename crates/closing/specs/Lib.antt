@@ -1,4 +1,5 @@
--- The definitions that the contracts of `closing` cite, demand 3, the commits that nothing bars, and what follows for a manager.
+-- The definitions that the contracts of `closing` cite, demand 3, the commits that nothing bars, what follows for a manager, and that both runs are attained.
+pub mod Attained
 pub mod Closing
 pub mod Committing
 pub mod Demand

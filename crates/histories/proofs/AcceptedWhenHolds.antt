@@ -1,43 +1,40 @@
--- When an operation, a delegation and a commit are accepted, when 22 refuses, and which pairs a new operation adds.
+-- When a begin, an operation, a delegation, a commit and an abort are accepted, when 15, 16, 17 and 22 refuse, and which pairs a new operation adds.
 use Prim.Native.Nat.{ℕ, _+_, _<_}
 use native.Mathlib.Omega.{arith}
 use mathlib.Core.Path.{_≡_, refl, sym, ap, _∙_, subst}
 use mathlib.Core.Bool.{Bool, true, false, not, _&&_, _||_}
-use mathlib.Core.Logic.{_≢_, _⊎_, inl, inr, ⊎-elim}
-use mathlib.Core.List.{List, [], _∷_}
+use mathlib.Core.Logic.{_↔_, _⊎_, inl, inr, ⊎-elim}
+use mathlib.Core.List.{List, []}
 use lib.Dec.{eqb, leb, ltb}
-use lib.ListN.{drop}
-use borrow.Author.Tests.{eq-eqb, eqb-true, leb-false, lt-leb, lt-ltb, ltb-true, ne-eqb}
-use Rattle.laws.specs.Lines.{Line, line}
-use Rattle.laws.proofs.Bools.{and-off, and-on, and-rest, clash, is-not, not-off, off-not, off-or, on-and, on-not}
+use lib.ListN.{drop, take}
+use borrow.Author.Tests.{eq-eqb, eqb-false, eqb-true, leb-false, lt-leb, lt-ltb, ltb-true, ne-eqb}
+use Rattle.laws.specs.Lines.{Off}
+use Rattle.laws.proofs.Bools.{and-off, and-on, and-rest, bool-cases, clash, is-not, not-off, off-not, off-or, on-and, on-not}
 use Rattle.laws.proofs.Decisions.{lt-or}
-use Rattle.laws.proofs.IndexLaws.{any-off, off-any}
-use Rattle.laws.proofs.LineLaws.{holdsFirst, others, peeled}
+use Rattle.laws.proofs.IndexLaws.{any-elim, any-off, off-any}
 use Rattle.terms.specs.Limits.{mostObjects, mostTransactions}
-use Rattle.terms.specs.Refusals.{numberOf}
 use Rattle.terms.specs.declared.Event.{Event}
-use Rattle.terms.specs.declared.Event.the-variants.{Commit, Delegate, Operation as Invoke}
+use Rattle.terms.specs.declared.Event.the-variants.{Abort, Begin, Commit, Delegate, Operation as Invoke}
 use Rattle.terms.specs.declared.Mark.{Mark}
-use Rattle.terms.specs.declared.Refusal.{Refusal}
-use Rattle.terms.specs.declared.Refusal.the-variants.{Full, MustWait, NeverDoes, NotActive, NotInTables, NotResponsible, UndoOnRing}
+use Rattle.terms.specs.declared.Refusal.the-variants.{DirtyRead, MustWait, OnRing, UndoOnRing}
 use Rattle.terms.specs.declared.Verdict.the-variants.{Accepted, Refused}
 use Rattle.ties.specs.Operations.{isAborted, isActive as isActiveOperation, mostOperations, newOp, opAt, size}
-use Rattle.ties.specs.Ties.{before, beforeGiven, beforeMade, conflict, dirty, dirtyAt, isGone, mustWait, opWith, ringWith, waitsFor}
+use Rattle.ties.specs.Ties.{before, beforeGiven, beforeMade, conflict, dirty, dirtyAt, isGone, mustWait, onRing, opWith, ringWith, waitsFor}
 use Rattle.ties.specs.declared.Operation.{Operation}
 use Rattle.ties.proofs.TieLaws.{Between, Counted, between, ties-on}
-use Rattle.ties.proofs.DirtyLaws.{clean-dirty, dirty-clean, read-on, read-parts}
+use Rattle.ties.proofs.DirtyLaws.{clean-dirty, dirty-by, dirty-clean, read-on, read-parts}
 use Rattle.tables.specs.Counts.{objectCount}
 use Rattle.tables.specs.Sorts.{isKnown, isSaga, isUndo, sortOf}
 use Rattle.tables.specs.declared.Tables.{Tables}
 use Rattle.rules.specs.Rules.{activeUndo, inactive}
-use Rattle.rules.specs.States.{isActive, phaseOf}
+use Rattle.rules.specs.States.{isActive, isIdle, phaseOf}
 use Rattle.rules.specs.declared.State.{State}
-use Rattle.judge.specs.Judge.{judged, lines, noParty, unknown, unknownObject, verdictBy}
-use Rattle.judge.proofs.RuleLaws.{not-accepted, operation-known}
+use Rattle.judge.specs.Judge.{judged, lines, noParty, unknown, unknownObject}
+use Rattle.judge.proofs.RuleLaws.{operation-known}
 use Rattle.histories.specs.Histories.{reached}
-use Rattle.histories.specs.May.{AcceptedWhen, CouldDelegate, CouldInvoke, MayCommit, MayDelegate, MayInvoke, NewPair, Party, RingsGiven, Waited}
+use Rattle.histories.specs.May.{AcceptedWhen, CouldCommit, CouldDelegate, CouldInvoke, Invoker, MayAbort, MayBegin, MayCommit, MayDelegate, MayInvoke, Meets, NewPair, Party, ReadsDirty, RingsGiven, Waited}
 use Rattle.histories.specs.Promises.{UndoRinged}
-use Rattle.histories.proofs.RunLaws.{lines-off, off-lines, same-refusal, verdict-lines}
+use Rattle.judge.proofs.EventLaws.{lines-off, off-lines, only-line}
 use Rattle.histories.proofs.Orders.{bounded, stays-in}
 use Rattle.histories.proofs.UndoRings.{rings-given, rings-made}
 
@@ -71,18 +68,42 @@ module _ (tables : Tables) (s : State) where
         and-off (not (eqb (opAt (s .ops) p .responsible) t)) (conflict (opAt (s .ops) p) o m)
         (λ other. waited undo p l running (λ e. clash (eq-eqb (opAt (s .ops) p .responsible) t e) (on-not (eqb (opAt (s .ops) p .responsible) t) other))))))
 
-    could : missing ≡ false → isSaga (sortOf tables t) ≡ false → inactive (s .transactions) t ≡ false → waits ≡ false → CouldInvoke tables s t o m
-    could known no-saga active waited =
+    -- 17
+    waits-on : waits ≡ true → (isUndo (sortOf tables t) ≡ true) × Meets (s .ops) t o m
+    unfolding mustWait
+    waits-on on =
+        let both = on-and (isUndo (sortOf tables t)) (mustWait (s .ops) t o m) on in
+        let w = any-elim (size (s .ops)) (λ i. waitsFor t o m (opAt (s .ops) i)) (both .1) in
+        let p = opAt (s .ops) (w .0) in
+        let x = on-and (isActiveOperation (p .fate)) (not (eqb (p .responsible) t) && conflict p o m) (w .2) in
+        let y = on-and (not (eqb (p .responsible) t)) (conflict p o m) (x .1) in (
+          both .0,
+          record { p = w .0; below = w .1; running = x .0; other = eqb-false (p .responsible) t (on-not (eqb (p .responsible) t) (y .0)); conflicts = y .1 },
+        )
+
+    on-waits : (isUndo (sortOf tables t) ≡ true) × Meets (s .ops) t o m → waits ≡ true
+    on-waits w =
+        bool-cases waits (λ on. on) (λ off. clash (w .1 .conflicts) (waits-not off (w .0) (w .1 .p) (w .1 .below) (w .1 .running) (w .1 .other)))
+
+    invoker : missing ≡ false → isSaga (sortOf tables t) ≡ false → inactive (s .transactions) t ≡ false → Invoker tables s t o
+    invoker known no-saga active =
         let both = off-or (unknown tables t) (unknownObject tables o) known in
         record {
           known = off-not (isKnown (sortOf tables t)) (both .0);
           object = ltb-true o (objectCount tables) (off-not (ltb o (objectCount tables)) (both .1));
           no-saga = no-saga;
           active = off-not (isActive (phaseOf (s .transactions) t)) active;
-          waited = waits-not waited;
         }
 
-    module _ (c : CouldInvoke tables s t o m) where
+    could : missing ≡ false → isSaga (sortOf tables t) ≡ false → inactive (s .transactions) t ≡ false → waits ≡ false → CouldInvoke tables s t o m
+    could known no-saga active waited =
+        let c = invoker known no-saga active in
+        record { known = c .known; object = c .object; no-saga = c .no-saga; active = c .active; waited = waits-not waited }
+
+    can : CouldInvoke tables s t o m → Invoker tables s t o
+    can c = record { known = c .known; object = c .object; no-saga = c .no-saga; active = c .active }
+
+    module _ (c : Invoker tables s t o) where
       not-missing : missing ≡ false
       not-missing = rw (c .known, lt-ltb o (objectCount tables) (c .object))
 
@@ -142,9 +163,43 @@ module _ (tables : Tables) (s : State) where
       not-foreign : foreign ≡ false
       not-foreign = rw (eq-eqb (opAt (s .ops) q .responsible) t (c .mine))
 
-  -- ---- a commit
-
   module _ (t : ℕ) where
+    -- ---- a begin
+
+    begin-may : judged tables s (Begin t) .verdict ≡ Accepted → MayBegin tables s t
+    begin-may v =
+        let off = lines-off tables s (Begin t) v in
+        record {
+          known = off-not (isKnown (sortOf tables t)) (off .0);
+          idle = off-not (isIdle (phaseOf (s .transactions) t)) (off .1 .0);
+          saga = off .1 .1 .0;
+          declared = off .1 .1 .1 .0;
+        }
+
+    may-begin : MayBegin tables s t → judged tables s (Begin t) .verdict ≡ Accepted
+    may-begin may =
+        off-lines tables s (Begin t)
+        (not-off (isKnown (sortOf tables t)) (may .known), (not-off (isIdle (phaseOf (s .transactions) t)) (may .idle), (may .saga, (may .declared, tt))))
+
+    -- ---- an abort
+
+    abort-may : judged tables s (Abort t) .verdict ≡ Accepted → MayAbort tables s t
+    abort-may v =
+        let off = lines-off tables s (Abort t) v in
+        record {
+          known = off-not (isKnown (sortOf tables t)) (off .0);
+          no-undo = off .1 .0;
+          active = off-not (isActive (phaseOf (s .transactions) t)) (off .1 .1 .0);
+          saga = off .1 .1 .1 .0;
+        }
+
+    may-abort : MayAbort tables s t → judged tables s (Abort t) .verdict ≡ Accepted
+    may-abort may =
+        off-lines tables s (Abort t)
+        (not-off (isKnown (sortOf tables t)) (may .known), (may .no-undo, (not-off (isActive (phaseOf (s .transactions) t)) (may .active), (may .saga, tt))))
+
+    -- ---- a commit
+
     commit-may : judged tables s (Commit t) .verdict ≡ Accepted → MayCommit tables s t
     unfolding dirty
     commit-may v =
@@ -180,32 +235,63 @@ module _ (tables : Tables) (s : State) where
           ),
         )
 
+    could-commit : Off (take 4 (lines tables s (Commit t))) → CouldCommit tables s t
+    could-commit off =
+        record {
+          known = off-not (isKnown (sortOf tables t)) (off .0);
+          active = off-not (isActive (phaseOf (s .transactions) t)) (off .1 .0);
+          saga = off .1 .1 .0;
+          declared = off .1 .1 .1 .0;
+        }
+
+    commit-could : CouldCommit tables s t → Off (take 4 (lines tables s (Commit t)))
+    commit-could c = (not-off (isKnown (sortOf tables t)) (c .known), (not-off (isActive (phaseOf (s .transactions) t)) (c .active), (c .saga, (c .declared, tt))))
+
+    dirty-on : dirty (s .ops) t ≡ true → ReadsDirty (s .ops) t
+    unfolding dirty
+    dirty-on on =
+        let w = any-elim (size (s .ops)) (dirtyAt (s .ops) t) on in
+        let d = dirty-by (s .ops) t (w .0) (w .1) (w .2) in
+        let x = read-parts t (opAt (s .ops) (w .0)) (d .0) in
+        record {
+          q = w .0;
+          accepted = w .1;
+          own = x .0;
+          read = x .1 .0;
+          there = x .1 .1;
+          p = d .1 .0;
+          write = d .1 .1;
+          tie = d .1 .2;
+          unclean = d .1 .3;
+        }
+
+    on-dirty : ReadsDirty (s .ops) t → dirty (s .ops) t ≡ true
+    unfolding dirty
+    on-dirty d =
+        bool-cases (dirty (s .ops) t) (λ on. on)
+        (λ off.
+        clash
+        (dirty-clean (s .ops) t (d .q) (off-any (size (s .ops)) (dirtyAt (s .ops) t) off (d .q) (d .accepted)) (read-on t (opAt (s .ops) (d .q)) (d .own) (d .read) (d .there)) (d .p) (d .write) (d .tie))
+        (d .unclean))
+
+    commit-dirty : (judged tables s (Commit t) .verdict ≡ Refused DirtyRead) ↔ (CouldCommit tables s t × ReadsDirty (s .ops) t)
+    commit-dirty =
+        let given = only-line tables s (Commit t) DirtyRead (take 4 (lines tables s (Commit t))) (drop 5 (lines tables s (Commit t))) (dirty (s .ops) t) refl refl refl in
+        (λ v. let w = given .0 v in (could-commit (w .0), dirty-on (w .1)), λ w. given .1 (commit-could (w .0), on-dirty (w .1)))
+
+    commit-rings : (judged tables s (Commit t) .verdict ≡ Refused OnRing) ↔ (CouldCommit tables s t × (ReadsDirty (s .ops) t → ⊥) × (onRing (s .ops) t ≡ true))
+    commit-rings =
+        let given = only-line tables s (Commit t) OnRing (take 5 (lines tables s (Commit t))) [] (onRing (s .ops) t) refl refl refl in (
+          λ v.
+              let w = given .0 v in
+              let off = w .0 in
+              (could-commit (off .0, (off .1 .0, (off .1 .1 .0, (off .1 .1 .1 .0, tt)))), λ d. clash (on-dirty d) (off .1 .1 .1 .1 .0), w .1),
+          λ w.
+              let off = commit-could (w .0) in
+              given .1 ((off .0, (off .1 .0, (off .1 .1 .0, (off .1 .1 .1 .0, (is-not (dirty (s .ops) t) (λ d. w .1 (dirty-on d)), tt))))), w .2),
+        )
+
 -- ---- in a state that events lead to
-
--- a refusal that is not 22
-abbrev NotThat : Refusal → Type 0
-NotThat r = r ≡ UndoOnRing → ⊥
-
-abbrev firstRefusal : List (Line Refusal) → Refusal
-firstRefusal [] = Full
-firstRefusal (l ∷ ls) = l .refusal
-
-peel : (ls : List (Line Refusal)) → NotThat (firstRefusal ls) → verdictBy ls ≡ Refused UndoOnRing → (holdsFirst ls ≡ false) × (verdictBy (others ls) ≡ Refused UndoOnRing)
-peel [] n e = absurd (not-accepted UndoOnRing (sym e))
-peel (l ∷ ls) n e = peeled Refused Accepted not-accepted same-refusal UndoOnRing l ls n e
-
-other : (r : Refusal) → numberOf r ≢ 22 → NotThat r
-other r n e = n (ap numberOf e)
-
--- the line of 22 decides where none after it has that refusal
-held-last : (b : Bool) → verdictBy (line UndoOnRing b ∷ []) ≡ Refused UndoOnRing → b ≡ true
-held-last true e = refl
-held-last false e = absurd (not-accepted UndoOnRing (sym e))
-
-held-full : (b f : Bool) → verdictBy (line UndoOnRing b ∷ line Full f ∷ []) ≡ Refused UndoOnRing → b ≡ true
-held-full true f e = refl
-held-full false true e = absurd (other Full (λ z. omega arith) (same-refusal Full UndoOnRing e))
-held-full false false e = absurd (not-accepted UndoOnRing (sym e))
 
 module _ (tables : Tables) (es : List Event) where
   abbrev now : State
@@ -227,11 +313,11 @@ module _ (tables : Tables) (es : List Event) where
     may-invoke : MayInvoke tables now t o m → judged tables now (Invoke t o m) .verdict ≡ Accepted
     may-invoke may =
         off-lines tables now (Invoke t o m) (
-          not-missing tables now t o m (may .could),
+          not-missing tables now t o m (can tables now t o m (may .could)),
           (
             may .could .no-saga,
             (
-              not-inactive tables now t o m (may .could),
+              not-inactive tables now t o m (can tables now t o m (may .could)),
               (
                 not-waits tables now t o m (may .could .waited),
                 (
@@ -243,20 +329,31 @@ module _ (tables : Tables) (es : List Event) where
           ),
         )
 
-    invoke-ringed : judged tables now (Invoke t o m) .verdict ≡ Refused UndoOnRing
-        → CouldInvoke tables now t o m × UndoRinged tables now (beforeMade (now .ops) (newOp t o m))
-    invoke-ringed v =
-        let a = peel (drop 0 (lines tables now (Invoke t o m))) (other NotInTables (λ z. omega arith)) (sym (verdict-lines tables now (Invoke t o m)) ∙ v) in
-        let b = peel (drop 1 (lines tables now (Invoke t o m))) (other NeverDoes (λ z. omega arith)) (a .1) in
-        let c = peel (drop 2 (lines tables now (Invoke t o m))) (other NotActive (λ z. omega arith)) (b .1) in
-        let d = peel (drop 3 (lines tables now (Invoke t o m))) (other MustWait (λ z. omega arith)) (c .1) in
-        (could tables now t o m (a .0) (b .0) (c .0) (d .0), rings-made tables es t o m .0 (held-full ring (leb mostOperations (now .ops .count)) (d .1)))
+    invoke-waits : (judged tables now (Invoke t o m) .verdict ≡ Refused MustWait) ↔ (Invoker tables now t o × (isUndo (sortOf tables t) ≡ true) × Meets (now .ops) t o m)
+    invoke-waits =
+        let ls = lines tables now (Invoke t o m) in
+        let given = only-line tables now (Invoke t o m) MustWait (take 3 ls) (drop 4 ls) (waits tables now t o m) refl refl refl in (
+          λ v. let w = given .0 v in let on = waits-on tables now t o m (w .1) in (invoker tables now t o m (w .0 .0) (w .0 .1 .0) (w .0 .1 .1 .0), on .0, on .1),
+          λ w.
+              given .1 (
+                (not-missing tables now t o m (w .0), (w .0 .no-saga, (not-inactive tables now t o m (w .0), tt))),
+                on-waits tables now t o m (w .1, w .2),
+              ),
+        )
 
-    ringed-invoke : CouldInvoke tables now t o m × UndoRinged tables now (beforeMade (now .ops) (newOp t o m))
-        → judged tables now (Invoke t o m) .verdict ≡ Refused UndoOnRing
-    ringed-invoke w =
-        verdict-lines tables now (Invoke t o m)
-        ∙ rw (not-missing tables now t o m (w .0), w .0 .no-saga, not-inactive tables now t o m (w .0), not-waits tables now t o m (w .0 .waited), rings-made tables es t o m .1 (w .1))
+    invoke-rings : (judged tables now (Invoke t o m) .verdict ≡ Refused UndoOnRing)
+        ↔ (CouldInvoke tables now t o m × UndoRinged tables now (beforeMade (now .ops) (newOp t o m)))
+    invoke-rings =
+        let ls = lines tables now (Invoke t o m) in
+        let given = only-line tables now (Invoke t o m) UndoOnRing (take 4 ls) (drop 5 ls) ring refl refl refl in (
+          λ v. let w = given .0 v in (could tables now t o m (w .0 .0) (w .0 .1 .0) (w .0 .1 .1 .0) (w .0 .1 .1 .1 .0), rings-made tables es t o m .0 (w .1)),
+          λ w.
+              let c = can tables now t o m (w .0) in
+              given .1 (
+                (not-missing tables now t o m c, (c .no-saga, (not-inactive tables now t o m c, (not-waits tables now t o m (w .0 .waited), tt)))),
+                rings-made tables es t o m .1 (w .1),
+              ),
+        )
 
     -- the pairs that it adds
     module _ (low : t < mostTransactions) (within : o < mostObjects) (a b : ℕ) where
@@ -373,26 +470,29 @@ module _ (tables : Tables) (es : List Event) where
           ),
         )
 
-    delegate-ringed : judged tables now (Delegate t r q) .verdict ≡ Refused UndoOnRing → CouldDelegate tables now t r q × RingsGiven tables now r q
-    delegate-ringed v =
-        let a = peel (drop 0 (lines tables now (Delegate t r q))) (other NotInTables (λ z. omega arith)) (sym (verdict-lines tables now (Delegate t r q)) ∙ v) in
-        let b = peel (drop 1 (lines tables now (Delegate t r q))) (other NeverDoes (λ z. omega arith)) (a .1) in
-        let c = peel (drop 2 (lines tables now (Delegate t r q))) (other NotActive (λ z. omega arith)) (b .1) in
-        let d = peel (drop 3 (lines tables now (Delegate t r q))) (other NotResponsible (λ z. omega arith)) (c .1) in
-        (could-give tables now t r q (a .0) (b .0) (c .0) (d .0), rings-on (held-last (running && rings) (d .1)))
-
-    ringed-delegate : CouldDelegate tables now t r q × RingsGiven tables now r q → judged tables now (Delegate t r q) .verdict ≡ Refused UndoOnRing
-    ringed-delegate w =
-        verdict-lines tables now (Delegate t r q)
-        ∙ rw (not-away tables now t r q (w .0), not-barred tables now t r q (w .0), not-idle tables now t r q (w .0), not-foreign tables now t r q (w .0), on-rings (w .1))
+    delegate-rings : (judged tables now (Delegate t r q) .verdict ≡ Refused UndoOnRing) ↔ (CouldDelegate tables now t r q × RingsGiven tables now r q)
+    delegate-rings =
+        let given = only-line tables now (Delegate t r q) UndoOnRing (take 4 (lines tables now (Delegate t r q))) [] (running && rings) refl refl refl in (
+          λ v. let w = given .0 v in (could-give tables now t r q (w .0 .0) (w .0 .1 .0) (w .0 .1 .1 .0) (w .0 .1 .1 .1 .0), rings-on (w .1)),
+          λ w.
+              given .1 (
+                (not-away tables now t r q (w .0), (not-barred tables now t r q (w .0), (not-idle tables now t r q (w .0), (not-foreign tables now t r q (w .0), tt)))),
+                on-rings (w .1),
+              ),
+        )
 
   pub accepted-when : AcceptedWhen tables es
   accepted-when =
       record {
+        begin = λ t. (begin-may tables now t, may-begin tables now t);
         invoke = λ t o m. (invoke-may t o m, may-invoke t o m);
-        invoke-rings = λ t o m. (invoke-ringed t o m, ringed-invoke t o m);
+        invoke-waits = invoke-waits;
+        invoke-rings = invoke-rings;
         delegate = λ t r q. (delegate-may t r q, may-delegate t r q);
-        delegate-rings = λ t r q. (delegate-ringed t r q, ringed-delegate t r q);
+        delegate-rings = delegate-rings;
         commit = λ t. (commit-may tables now t, may-commit tables now t);
+        commit-dirty = commit-dirty tables now;
+        commit-rings = commit-rings tables now;
+        abort = λ t. (abort-may tables now t, may-abort tables now t);
         pairs-made = λ t o m low within a b. (pairs-to t o m low within a b, pairs-from t o m low within a b);
       }

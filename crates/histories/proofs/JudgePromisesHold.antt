@@ -22,8 +22,8 @@ use Rattle.rules.specs.declared.State.{State}
 use Rattle.histories.proofs.CircleIdle.{never-begins}
 use Rattle.histories.proofs.Invariants.{lasting}
 use Rattle.rules.proofs.PhaseLaws.{code, of-active}
-use Rattle.histories.proofs.Responsible.{responsible-told}
-use Rattle.histories.proofs.RunLaws.{next-ok, one-event}
+use Rattle.histories.proofs.Accounts.{count-told, operations-told, phases-told, responsible-told}
+use Rattle.judge.proofs.EventLaws.{next-ok}
 use Rattle.histories.proofs.Singles.{ended-alone}
 use Rattle.histories.proofs.TiesMean.{ties-mean}
 use Rattle.histories.proofs.Orders.{order-means}
@@ -38,6 +38,9 @@ any-run : (tables : Tables) (es : List Event) → AnyRun tables es
 any-run tables es =
     record {
       responsible = responsible-told tables es;
+      operations = operations-told tables es;
+      count = count-told tables es;
+      phases = phases-told tables es;
       ties = ties-mean tables es;
       order = order-means tables es;
       undo-off-rings = freed tables es .free;
@@ -55,4 +58,4 @@ any-run tables es =
     is-active p e = rw (of-active p e)
 
 pub judge-promises : JudgePromises
-judge-promises = record { one-event = one-event; ended-alone = ended-alone; any-run = any-run; never-begins = λ tables es t w. never-begins tables es t w }
+judge-promises = record { ended-alone = ended-alone; any-run = any-run; never-begins = λ tables es t w. never-begins tables es t w }

@@ -5,12 +5,11 @@ pub mod Lasts
 pub mod Touches
 pub mod Invariants
 pub mod Endings
-pub mod Responsible
+pub mod Accounts
 pub mod Singles
 pub mod TiesMean
 pub mod CircleIdle
 pub mod Orders
 pub mod UndoRings
 pub mod AcceptedWhenHolds
-pub mod JudgingOrderHolds
 pub mod JudgePromisesHold

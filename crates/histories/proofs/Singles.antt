@@ -25,7 +25,7 @@ use Rattle.rules.specs.States.{isActive, phaseOf}
 use Rattle.judge.specs.declared.Change.the-variants.{EndsOne}
 use Rattle.terms.specs.declared.Event.the-variants.{AbortOne, CommitOne}
 use Rattle.rules.specs.declared.State.{State}
-use Rattle.histories.proofs.RunLaws.{lines-off, next-ok, off-lines}
+use Rattle.judge.proofs.EventLaws.{lines-off, next-ok, off-lines}
 use Rattle.histories.proofs.Steps.{commit-one-may, single-may}
 
 plain-known : (x : Sort) → isPlain x ≡ true → not (isKnown x) ≡ false

@@ -32,7 +32,8 @@ use Rattle.rules.specs.declared.Phase.the-variants.{Aborted, Active, Committed,
 use Rattle.rules.specs.declared.State.{State}
 use Rattle.rules.proofs.PhaseLaws.{active-is, code, idle-is}
 use Rattle.judge.proofs.RuleLaws.{object-small, operation-known, single-known}
-use Rattle.histories.proofs.RunLaws.{by-verdict, keeps, lines-off, next-no, next-ok}
+use Rattle.judge.proofs.EventLaws.{by-verdict, lines-off, next-no, next-ok}
+use Rattle.histories.proofs.RunLaws.{keeps}
 
 module _ (tables : Tables) (s : State) where
   pub record Entering (t : ℕ) : Type 0 where

@@ -1,12 +1,18 @@
 -- Many events one after the other: "Take events in any order and drop the refused ones."
 use Prim.Native.Nat.{ℕ, suc}
-use mathlib.Core.Bool.{Bool, true, false, cond, not, _&&_, _||_}
+use mathlib.Core.Bool.{Bool, true, false, cond}
 use mathlib.Core.List.{List, [], _∷_}
 use lib.Dec.{eqb, ltb}
 use Rattle.terms.specs.declared.Verdict.{Verdict}
 use Rattle.terms.specs.declared.Verdict.the-variants.{Accepted, Refused}
-use Rattle.ties.specs.Operations.{size}
+use Rattle.terms.specs.declared.Mark.{Mark}
+use Rattle.terms.specs.declared.Mark.the-variants.{Read}
+use Rattle.ties.specs.Operations.{isActive, size}
+use Rattle.ties.specs.declared.Fate.{Fate}
+use Rattle.ties.specs.declared.Fate.the-variants.{Aborted as FateAborted, Active as FateActive, Committed as FateCommitted}
 use Rattle.tables.specs.declared.Tables.{Tables}
+use Rattle.rules.specs.declared.Phase.{Phase}
+use Rattle.rules.specs.declared.Phase.the-variants.{Aborted, Active, Committed, Idle}
 use Rattle.rules.specs.declared.State.{State}
 use Rattle.terms.specs.declared.Event.{Event}
 use Rattle.terms.specs.declared.Event.the-variants.{Begin, Commit, Abort, Operation as Invoke, Delegate, CommitOne, AbortOne}
@@ -37,50 +43,74 @@ reached tables es = run tables emptyState es
 abbrev pub history : Tables → List Event → List Event
 history tables es = taken tables emptyState es
 
--- ---- what a history says of operation q
+-- ---- what a history says of every transaction and of every operation
 
--- an account of the operations: how many were made, whose each is, and whether it has ended
+-- of an operation: its object, its mark, whose it is and its fate
+pub record Deed : Type 0 where
+  pub object : ℕ
+  pub mark : Mark
+  pub whose : ℕ
+  pub fate : Fate
+
+-- an account: the phase of each transaction, how many operations were made, and each of them
 pub record Account : Type 0 where
+  pub phase : ℕ → Phase
   pub made : ℕ
-  pub whose : ℕ → ℕ
-  pub over : ℕ → Bool
+  pub deed : ℕ → Deed
 
 abbrev pub noAccount : Account
-noAccount = record { made = 0; whose = λ q. 0; over = λ q. false }
+noAccount = record { phase = λ t. Idle; made = 0; deed = λ q. record { object = 0; mark = Read; whose = 0; fate = FateActive } }
+
+-- t is in another phase from now on
+abbrev pub moved : Phase → ℕ → Account → Account
+moved p t a = record { phase = λ u. cond (eqb u t) p (a .phase u); made = a .made; deed = a .deed }
 
 -- the next operation is t's
-abbrev pub invokedBy : ℕ → Account → Account
-invokedBy t a =
-    record { made = suc (a .made); whose = λ q. cond (eqb q (a .made)) t (a .whose q); over = λ q. cond (eqb q (a .made)) false (a .over q) }
+abbrev pub invoked : ℕ → ℕ → Mark → Account → Account
+invoked t o m a =
+    record {
+      phase = a .phase;
+      made = suc (a .made);
+      deed = λ q. cond (eqb q (a .made)) (record { object = o; mark = m; whose = t; fate = FateActive }) (a .deed q);
+    }
 
--- operation p is r's from now on, unless it has ended
-abbrev pub receivedBy : ℕ → ℕ → Account → Account
-receivedBy p r a = record { made = a .made; whose = λ q. cond (eqb q p && not (a .over q)) r (a .whose q); over = a .over }
+-- those that are meant change, unless they have ended
+abbrev pub retell : (ℕ → Deed → Bool) → (Deed → Deed) → Account → Account
+retell meant how a =
+    record { phase = a .phase; made = a .made; deed = λ q. cond (meant q (a .deed q)) (cond (isActive (a .deed q .fate)) (how (a .deed q)) (a .deed q)) (a .deed q) }
 
--- all of t's have ended
-abbrev pub endedWith : ℕ → Account → Account
-endedWith t a = record { made = a .made; whose = a .whose; over = λ q. a .over q || eqb (a .whose q) t }
+-- those of t, and operation p
+abbrev pub ofThe : ℕ → ℕ → Deed → Bool
+ofThe t q d = eqb (d .whose) t
 
--- operation p has ended
-abbrev pub endedAlone : ℕ → Account → Account
-endedAlone p a = record { made = a .made; whose = a .whose; over = λ q. a .over q || eqb q p }
+abbrev pub only : ℕ → ℕ → Deed → Bool
+only p q d = eqb q p
+
+abbrev pub toReceiver : ℕ → Deed → Deed
+toReceiver r d = record { object = d .object; mark = d .mark; whose = r; fate = d .fate }
+
+abbrev pub toFate : Fate → Deed → Deed
+toFate fate d = record { object = d .object; mark = d .mark; whose = d .whose; fate = fate }
 
 abbrev pub recounted : Event → Account → Account
-recounted (Begin t) a = a
-recounted (Commit t) a = endedWith t a
-recounted (Abort t) a = endedWith t a
-recounted (Invoke t o m) a = invokedBy t a
-recounted (Delegate t r p) a = receivedBy p r a
-recounted (CommitOne t p) a = endedAlone p a
-recounted (AbortOne t p) a = endedAlone p a
+recounted (Begin t) a = moved Active t a
+recounted (Commit t) a = retell (ofThe t) (toFate FateCommitted) (moved Committed t a)
+recounted (Abort t) a = retell (ofThe t) (toFate FateAborted) (moved Aborted t a)
+recounted (Invoke t o m) a = invoked t o m a
+recounted (Delegate t r p) a = retell (only p) (toReceiver r) a
+recounted (CommitOne t p) a = retell (only p) (toFate FateCommitted) a
+recounted (AbortOne t p) a = retell (only p) (toFate FateAborted) a
 
 unfoldable pub accountOf : List Event → Account → Account
 accountOf [] a = a
 accountOf (e ∷ es) a = accountOf es (recounted e a)
 
+abbrev pub told : List Event → Account
+told es = accountOf es noAccount
+
 -- "An operation's responsible transaction is its invoker until it is delegated, then the last receiver."
 abbrev pub responsibleIn : List Event → ℕ → ℕ
-responsibleIn es q = accountOf es noAccount .whose q
+responsibleIn es q = told es .deed q .whose
 
 -- the state in which operation q was accepted: the last before there are more than q
 unfoldable pub whenMade : Tables → State → List Event → ℕ → State

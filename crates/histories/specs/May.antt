@@ -1,20 +1,16 @@
--- When an operation, a delegation and a commit are accepted, and when 22 refuses: once more in the words of the rules, without the lists of lines; which pairs
--- a new operation adds to the order; and the one order of judging.
+-- When a begin, an operation, a delegation, a commit and an abort are accepted, and when 15, 16, 17 and 22 refuse: once more in the words of the rules, without the lists of lines,
+-- and which pairs a new operation adds to the order.
 use Prim.Native.Nat.{ℕ, _<_}
 use mathlib.Core.Path.{_≡_}
-use mathlib.Core.Bool.{Bool, true, false, cond}
+use mathlib.Core.Bool.{true, false}
 use mathlib.Core.Logic.{_↔_, _≢_, _⊎_}
-use mathlib.Core.List.{List, [], _∷_, map}
-use lib.Dec.{eqb}
-use Rattle.laws.specs.Lines.{Line}
+use mathlib.Core.List.{List}
 use Rattle.terms.specs.Events.{isWrite}
 use Rattle.terms.specs.Limits.{mostObjects, mostTransactions}
-use Rattle.terms.specs.Refusals.{numberOf}
 use Rattle.terms.specs.declared.Event.{Event}
-use Rattle.terms.specs.declared.Event.the-variants.{Commit, Delegate, Operation as Invoke}
+use Rattle.terms.specs.declared.Event.the-variants.{Abort, Begin, Commit, Delegate, Operation as Invoke}
 use Rattle.terms.specs.declared.Mark.{Mark}
-use Rattle.terms.specs.declared.Refusal.{Refusal}
-use Rattle.terms.specs.declared.Refusal.the-variants.{NotInTables, NeverDoes, NotIdle, NotActive, NotResponsible, SagaRule, DependencyRule, DirtyRead, OnRing, MustWait, Full, AlreadyEnded, UndoOnRing}
+use Rattle.terms.specs.declared.Refusal.the-variants.{DirtyRead, MustWait, OnRing, UndoOnRing}
 use Rattle.terms.specs.declared.Verdict.the-variants.{Accepted, Refused}
 use Rattle.ties.specs.Operations.{isAborted, isActive as isActiveOperation, mostOperations, newOp, opAt, size}
 use Rattle.ties.specs.Ties.{before, beforeGiven, beforeMade, cleanFor, conflict, onRing, tied}
@@ -22,12 +18,21 @@ use Rattle.ties.specs.declared.Ops.{Ops}
 use Rattle.tables.specs.Counts.{objectCount}
 use Rattle.tables.specs.Sorts.{isKnown, isSaga, isUndo, sortOf}
 use Rattle.tables.specs.declared.Tables.{Tables}
-use Rattle.rules.specs.Rules.{commitBarred, declaredBars}
-use Rattle.rules.specs.States.{isActive, phaseOf}
+use Rattle.rules.specs.Rules.{abortBarred, beginBarred, commitBarred, declaredBars}
+use Rattle.rules.specs.States.{isActive, isIdle, phaseOf}
 use Rattle.rules.specs.declared.State.{State}
-use Rattle.judge.specs.Judge.{judged, lines}
+use Rattle.judge.specs.Judge.{judged}
 use Rattle.histories.specs.Histories.{reached}
 use Rattle.histories.specs.Promises.{UndoRinged}
+
+-- ---- a begin
+
+-- t is in the tables and idle, the saga rules and the declared dependencies let it
+pub record MayBegin (tables : Tables) (s : State) (t : ℕ) : Type 0 where
+  pub known : isKnown (sortOf tables t) ≡ true
+  pub idle : isIdle (phaseOf (s .transactions) t) ≡ true
+  pub saga : beginBarred (s .transactions) (sortOf tables t) ≡ false
+  pub declared : declaredBars true tables (s .transactions) t ≡ false
 
 -- ---- an operation
 
@@ -36,6 +41,21 @@ abbrev pub Waited : Tables → State → ℕ → ℕ → Mark → Type 0
 Waited tables s t o m =
     isUndo (sortOf tables t) ≡ true
     → (p : ℕ) → p < size (s .ops) → isActiveOperation (opAt (s .ops) p .fate) ≡ true → opAt (s .ops) p .responsible ≢ t → conflict (opAt (s .ops) p) o m ≡ false
+
+-- an active operation of another conflicts with it
+pub record Meets (ops : Ops) (t o : ℕ) (m : Mark) : Type 0 where
+  pub p : ℕ
+  pub below : p < size ops
+  pub running : isActiveOperation (opAt ops p .fate) ≡ true
+  pub other : opAt ops p .responsible ≢ t
+  pub conflicts : conflict (opAt ops p) o m ≡ true
+
+-- t is in the tables, no saga and active, and the object is in the tables
+pub record Invoker (tables : Tables) (s : State) (t o : ℕ) : Type 0 where
+  pub known : isKnown (sortOf tables t) ≡ true
+  pub object : o < objectCount tables
+  pub no-saga : isSaga (sortOf tables t) ≡ false
+  pub active : isActive (phaseOf (s .transactions) t) ≡ true
 
 -- t is in the tables, no saga and active, the object is in the tables, and an undo has waited
 pub record CouldInvoke (tables : Tables) (s : State) (t o : ℕ) (m : Mark) : Type 0 where
@@ -89,6 +109,34 @@ pub record MayCommit (tables : Tables) (s : State) (t : ℕ) : Type 0 where
       → (p : ℕ) → isWrite (opAt (s .ops) p .mark) ≡ true → tied (s .ops) p q ≡ true → cleanFor t (opAt (s .ops) p) ≡ true
   pub off-rings : onRing (s .ops) t ≡ false
 
+-- t is in the tables and active, the saga rules and the declared dependencies let it
+pub record CouldCommit (tables : Tables) (s : State) (t : ℕ) : Type 0 where
+  pub known : isKnown (sortOf tables t) ≡ true
+  pub active : isActive (phaseOf (s .transactions) t) ≡ true
+  pub saga : commitBarred (s .transactions) (sortOf tables t) ≡ false
+  pub declared : declaredBars false tables (s .transactions) t ≡ false
+
+-- before some read q that t answers for, itself not aborted, a write p is tied that is not committed, nor active and t's
+pub record ReadsDirty (ops : Ops) (t : ℕ) : Type 0 where
+  pub q : ℕ
+  pub accepted : q < size ops
+  pub own : opAt ops q .responsible ≡ t
+  pub read : isWrite (opAt ops q .mark) ≡ false
+  pub there : isAborted (opAt ops q .fate) ≡ false
+  pub p : ℕ
+  pub write : isWrite (opAt ops p .mark) ≡ true
+  pub tie : tied ops p q ≡ true
+  pub unclean : cleanFor t (opAt ops p) ≡ false
+
+-- ---- an abort
+
+-- t is in the tables, no undo and active, and the saga rules let it
+pub record MayAbort (tables : Tables) (s : State) (t : ℕ) : Type 0 where
+  pub known : isKnown (sortOf tables t) ≡ true
+  pub no-undo : isUndo (sortOf tables t) ≡ false
+  pub active : isActive (phaseOf (s .transactions) t) ≡ true
+  pub saga : abortBarred (s .transactions) (sortOf tables t) ≡ false
+
 -- ---- the order with a new operation
 
 -- an operation of a that is not aborted conflicts with the new one of t
@@ -104,7 +152,11 @@ pub record NewPair (ops : Ops) (t o : ℕ) (m : Mark) (a b : ℕ) : Type 0 where
 -- ---- after any run of events
 
 pub record AcceptedWhen (tables : Tables) (es : List Event) : Type 0 where
+  pub begin : (t : ℕ) → (judged tables (reached tables es) (Begin t) .verdict ≡ Accepted) ↔ MayBegin tables (reached tables es) t
   pub invoke : (t o : ℕ) (m : Mark) → (judged tables (reached tables es) (Invoke t o m) .verdict ≡ Accepted) ↔ MayInvoke tables (reached tables es) t o m
+  -- an undo must wait: 17 exactly then
+  pub invoke-waits : (t o : ℕ) (m : Mark) → (judged tables (reached tables es) (Invoke t o m) .verdict ≡ Refused MustWait)
+      ↔ (Invoker tables (reached tables es) t o × (isUndo (sortOf tables t) ≡ true) × Meets (reached tables es .ops) t o m)
   -- "an operation or delegation that would put an active undo on a ring is refused": by 22 exactly then, also where there is no room
   pub invoke-rings : (t o : ℕ) (m : Mark) → (judged tables (reached tables es) (Invoke t o m) .verdict ≡ Refused UndoOnRing)
       ↔ (CouldInvoke tables (reached tables es) t o m × UndoRinged tables (reached tables es) (beforeMade (reached tables es .ops) (newOp t o m)))
@@ -112,26 +164,12 @@ pub record AcceptedWhen (tables : Tables) (es : List Event) : Type 0 where
   pub delegate-rings : (t r q : ℕ) → (judged tables (reached tables es) (Delegate t r q) .verdict ≡ Refused UndoOnRing)
       ↔ (CouldDelegate tables (reached tables es) t r q × RingsGiven tables (reached tables es) r q)
   pub commit : (t : ℕ) → (judged tables (reached tables es) (Commit t) .verdict ≡ Accepted) ↔ MayCommit tables (reached tables es) t
+  -- 15 exactly when there is a dirty read, and 16 exactly when there is none and t is on a ring
+  pub commit-dirty : (t : ℕ) → (judged tables (reached tables es) (Commit t) .verdict ≡ Refused DirtyRead)
+      ↔ (CouldCommit tables (reached tables es) t × ReadsDirty (reached tables es .ops) t)
+  pub commit-rings : (t : ℕ) → (judged tables (reached tables es) (Commit t) .verdict ≡ Refused OnRing)
+      ↔ (CouldCommit tables (reached tables es) t × (ReadsDirty (reached tables es .ops) t → ⊥) × (onRing (reached tables es .ops) t ≡ true))
+  pub abort : (t : ℕ) → (judged tables (reached tables es) (Abort t) .verdict ≡ Accepted) ↔ MayAbort tables (reached tables es) t
   -- a new operation within the limits adds exactly the pairs that end at its invoker
   pub pairs-made : (t o : ℕ) (m : Mark) → t < mostTransactions → o < mostObjects → (a b : ℕ)
       → (beforeMade (reached tables es .ops) (newOp t o m) a b ≡ true) ↔ ((before (reached tables es .ops) a b ≡ true) ⊎ NewPair (reached tables es .ops) t o m a b)
-
--- ---- the one order of judging: by number, but for 20 after 14 and 22 before 18
-
-abbrev pub judgingOrder : List Refusal
-judgingOrder =
-    NotInTables ∷ NeverDoes ∷ NotIdle ∷ NotActive ∷ NotResponsible ∷ SagaRule ∷ DependencyRule ∷ AlreadyEnded ∷ DirtyRead ∷ OnRing ∷ MustWait ∷ UndoOnRing ∷ Full ∷ []
-
-abbrev pub refusalsOf : List (Line Refusal) → List Refusal
-refusalsOf = map (λ (l : Line Refusal). l .refusal)
-
--- the first list is what is left of the second where some are left out
-abbrev pub leftOf : List Refusal → List Refusal → Bool
-leftOf [] ys = true
-leftOf (x ∷ xs) [] = false
-leftOf (x ∷ xs) (y ∷ ys) = cond (eqb (numberOf x) (numberOf y)) (leftOf xs ys) (leftOf (x ∷ xs) ys)
-
-pub record JudgingOrder : Type 0 where
-  pub numbers : map numberOf judgingOrder ≡ 8 ∷ 9 ∷ 10 ∷ 11 ∷ 12 ∷ 13 ∷ 14 ∷ 20 ∷ 15 ∷ 16 ∷ 17 ∷ 22 ∷ 18 ∷ []
-  -- the lines of every event stand in this order, each once
-  pub kept : (tables : Tables) (s : State) (e : Event) → leftOf (refusalsOf (lines tables s e)) judgingOrder ≡ true

@@ -1,13 +1,12 @@
--- What is promised of judging, one event and any run of events.
+-- What is promised of judging any run of events.
 use Prim.Native.Nat.{ℕ, _<_}
 use mathlib.Core.Path.{_≡_}
 use mathlib.Core.Bool.{Bool, true, false, cond, not, _&&_}
 use lib.Dec.{eqb}
 use mathlib.Core.Logic.{_↔_, _≢_}
 use mathlib.Core.List.{List}
-use Rattle.laws.specs.Lines.{Off, FirstIs}
-use Rattle.terms.specs.declared.Refusal.{Refusal}
-use Rattle.terms.specs.declared.Verdict.the-variants.{Accepted, Refused}
+use Rattle.terms.specs.Limits.{mostTransactions}
+use Rattle.terms.specs.declared.Verdict.the-variants.{Accepted}
 use Rattle.ties.specs.Operations.{isAborted, isActive as isActiveOperation, made, mostOperations, newOp, opAt, size, heldBy, endedAs}
 use Rattle.ties.specs.Ties.{before, beforeGiven, beforeMade, conflict, tied, cleanFor, onRing, ringWith}
 use Rattle.ties.specs.declared.Operation.{Operation}
@@ -22,21 +21,12 @@ use Rattle.tables.specs.declared.Tables.{Tables}
 use Rattle.rules.specs.declared.Phase.the-variants.{Idle}
 use Rattle.rules.specs.declared.State.{State}
 use Rattle.terms.specs.declared.Event.{Event}
-use Rattle.terms.specs.declared.Event.the-variants.{Commit, Abort, CommitOne, AbortOne}
+use Rattle.terms.specs.declared.Event.the-variants.{Abort, AbortOne, Commit, CommitOne}
 use Rattle.rules.specs.States.{isActive, phaseOf, emptyState}
 use Rattle.rules.specs.Rules.{activeUndo}
 use Rattle.judge.specs.Judge.{lines, judged}
 use Rattle.terms.specs.Events.{isWrite}
-use Rattle.histories.specs.Histories.{reached, history, responsibleIn, whenMade}
-
--- one event, in any state
-pub record OneEvent (tables : Tables) (s : State) (e : Event) : Type 0 where
-  -- it is accepted exactly when no line holds
-  pub accepted : (judged tables s e .verdict ≡ Accepted) ↔ Off (lines tables s e)
-  -- each refusal is given exactly when its line holds and none before it does
-  pub refused : (r : Refusal) → (judged tables s e .verdict ≡ Refused r) ↔ FirstIs r (lines tables s e)
-  -- a refused event leaves all transactions, operations and responsibilities as they stood
-  pub unchanged : (r : Refusal) → judged tables s e .verdict ≡ Refused r → judged tables s e .state ≡ s
+use Rattle.histories.specs.Histories.{Deed, history, reached, responsibleIn, told, whenMade}
 
 -- ---- one operation ended alone
 
@@ -91,12 +81,23 @@ pub record Stands (ops : Ops) (a b : ℕ) : Type 0 where
 abbrev pub UndoRinged : Tables → State → (ℕ → ℕ → Bool) → Type 0
 UndoRinged tables s R = (u : ℕ) × (activeUndo tables (s .transactions) u ≡ true) × Leads R u u
 
+-- an operation is as the history tells it
+pub record AsTold (x : Operation) (d : Deed) : Type 0 where
+  pub object : x .object ≡ d .object
+  pub mark : x .mark ≡ d .mark
+  pub responsible : x .responsible ≡ d .whose
+  pub fate : x .fate ≡ d .fate
+
 -- any run of events, refused ones dropped
 pub record AnyRun (tables : Tables) (es : List Event) : Type 0 where
   -- "An operation's responsible transaction is its invoker until it is delegated, then the last receiver." "Delegating an operation that
   -- has ended is accepted and changes nothing."
   pub responsible : (q : ℕ) → q < size (reached tables es .ops)
       → opAt (reached tables es .ops) q .responsible ≡ responsibleIn (history tables es) q
+  -- and so its object, its mark and its fate; how many operations there are; and the phase of every transaction
+  pub operations : (q : ℕ) → q < size (reached tables es .ops) → AsTold (opAt (reached tables es .ops) q) (told (history tables es) .deed q)
+  pub count : size (reached tables es .ops) ≡ told (history tables es) .made
+  pub phases : (t : ℕ) → t < mostTransactions → phaseOf (reached tables es .transactions) t ≡ told (history tables es) .phase t
   -- "q is tied to every earlier conflicting operation not aborted when q is accepted"
   pub ties : (p q : ℕ) → p < q → q < size (reached tables es .ops)
       → tied (reached tables es .ops) p q
@@ -125,7 +126,6 @@ pub record AnyRun (tables : Tables) (es : List Event) : Type 0 where
       → EndsWith (reached tables es) (judged tables (reached tables es) (Abort t) .state) t Aborted
 
 pub record JudgePromises : Type 0 where
-  pub one-event : (tables : Tables) (s : State) (e : Event) → OneEvent tables s e
   pub ended-alone : (tables : Tables) (s : State) (t q : ℕ) → EndedAlone tables s t q
   pub any-run : (tables : Tables) (es : List Event) → AnyRun tables es
   -- why tables that can never move are refused: whom begin dependencies lead back to itself never begins, whatever the events

@@ -2,3 +2,5 @@
 pub mod RuleLaws
 pub mod LentLaws
 pub mod ChangeLaws
+pub mod EventLaws
+pub mod EventPromisesHold

@@ -1,3 +1,4 @@
 -- The definitions that the contracts of `judge` cite.
 pub mod Judge
 pub mod Lent
+pub mod Promises

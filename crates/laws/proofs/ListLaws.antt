@@ -41,6 +41,10 @@ map-set f [] i x = refl
 map-set f (y ∷ l) zero x = refl
 map-set f (y ∷ l) (suc i) x = ap (λ (s : List _). f y ∷ s) (map-set f l i x)
 
+-- what is stored behind the first i stands behind them
+pub take-stored : {A : Type 0} (l : List A) (i : ℕ) (x : A) → i < length l → take (i + 1) (set l i x) ≡ take i l ++ (x ∷ [])
+take-stored l i x h = let more : i + 1 ≡ suc i = omega arith in ap (λ (m : ℕ). take m (set l i x)) more ∙ take-suc-set l i x h
+
 -- ---- copied one by one
 
 -- the first i are copied

@@ -1,12 +1,12 @@
 -- Laws of the listing: which line is which, that every line fits a text, and what putting a line into a room does.
-use Prim.Native.Nat.{ℕ, _-_, _≤_, _<_, min}
+use Prim.Native.Nat.{ℕ, _-_, _≤_, _<_}
 use mathlib.Core.Path.{_≡_, refl, sym, ap, _∙_}
 use mathlib.Core.Bool.{Bool, true, false, cond}
-use mathlib.Core.List.{List, [], _++_}
+use mathlib.Core.List.{List, []}
 use native.Mathlib.Omega.{arith}
 use borrow.Author.Tests.{lt-ltb, le-ltb, le-leb, lt-leb, eq-eqb, ne-eqb}
 use lib.Dec.{ltb, eqb}
-use lib.ListN.{length, drop, length-take, length-append, length-drop}
+use lib.ListN.{length, length-append}
 use Rattle.laws.proofs.Decisions.{lt-or}
 use Rattle.terms.specs.Refusals.{numberOf}
 use Rattle.terms.specs.declared.Verdict.{Verdict}
@@ -25,12 +25,13 @@ use Rattle.closing.specs.declared.NextStep.{NextStep}
 use Rattle.closing.specs.declared.NextStep.the-variants.{NoStep, ToBegin, ToCommit, ToAbort}
 use Rattle.book.specs.declared.Reading.{Reading}
 use Rattle.tables.specs.Counts.{transactionCount}
-use Rattle.listing.specs.declared.Text.{Text}
+use Rattle.listing.specs.declared.Put.{Put}
+use Rattle.listing.specs.declared.Put.the-variants.{Wrote as PutWrote, NoRoom as PutNoRoom}
 use Rattle.listing.specs.declared.Placed.{Placed}
 use Rattle.listing.specs.declared.Placed.the-variants.{Wrote, NoRoom, NoLine}
-use Rattle.listing.specs.Texts.{mostText, textOf, withAll}
-use Rattle.listing.specs.Lines.{phaseWord, fateWord, markWord, stepWords, firstLineBy, transactionLine, operationLineOf, operationLine, sagaLine, lineCount, laterLine, lineOf, placeAnswer, placeRoom}
-use Rattle.listing.proofs.TextLaws.{all-fits}
+use Rattle.listing.specs.Texts.{mostText, putAnswer, putRoom, withAll}
+use Rattle.listing.specs.Lines.{phaseWord, fateWord, markWord, stepWords, firstLineBy, transactionLine, operationLineOf, operationLine, sagaLine, lineCount, laterLine, lineOf, placed, placeAnswer, placeRoom}
+use Rattle.listing.proofs.TextLaws.{all-fits, put-fits, put-kept}
 use Rattle.listing.proofs.DigitLaws.{decimal-le}
 
 -- ---- which line is which
@@ -113,75 +114,33 @@ line-fits r k =
     (operation-fits (k - 1 - transactionCount (r .tables)) (opAt (r .state .ops) (k - 1 - transactionCount (r .tables))))
     (saga-fits r (k - 1 - transactionCount (r .tables) - size (r .state .ops)))))
 
--- the bytes that a text shows are as many as it says
-shown : (t : Text) (l : List ℕ) → length (t .bytes) ≡ mostText → textOf t ≡ l → min (t .len) mostText ≡ length l
-shown t l b e = sym (ap length (sym e) ∙ length-take (t .len) (t .bytes) ∙ ap (min (t .len)) b)
-
 -- so a text that was made for a line is the line
-pub line-whole : (r : Reading) (k : ℕ) (t : Text) → length (t .bytes) ≡ mostText → textOf t ≡ withAll [] (lineOf r k)
-    → (textOf t ≡ lineOf r k) × (t .len ≤ mostText)
-line-whole r k t b e =
-    let h = line-fits r k in
-    let w = e ∙ all-fits [] (lineOf r k) (omega arith) in
-    let s = shown t (lineOf r k) b w in
-    (w, omega arith)
-
--- and has its length
-pub line-length : (r : Reading) (k : ℕ) (t : Text) → length (t .bytes) ≡ mostText → textOf t ≡ lineOf r k → t .len ≡ length (lineOf r k)
-line-length r k t b e =
-    let h = line-fits r k in
-    let s = shown t (lineOf r k) b e in
-    omega arith
+pub line-whole : (r : Reading) (k : ℕ) {l : List ℕ} → l ≡ withAll [] (lineOf r k) → l ≡ lineOf r k
+line-whole r k e = let h = line-fits r k in e ∙ all-fits [] (lineOf r k) (omega arith)
 
 -- ---- into a room
 
-module _ (r : Reading) (k lines : ℕ) (room : List ℕ) (e : lines ≡ lineCount r) where
-  pub place-none : lines ≤ k → (NoLine ≡ placeAnswer r k room) × (room ≡ placeRoom r k room)
+module _ (r : Reading) (k : ℕ) (room : List ℕ) where
+  pub place-none : lineCount r ≤ k → (NoLine ≡ placeAnswer r k room) × (room ≡ placeRoom r k room)
   unfolding placeAnswer placeRoom
-  place-none h = let t = le-leb (lineCount r) k (omega arith) in (rw t, rw t)
+  place-none h = let t = le-leb (lineCount r) k h in (rw t, rw t)
 
-  module _ (l : k < lines) (n : ℕ) (d : n ≡ length (lineOf r k)) where
-    pub place-small : length room < n → (NoRoom ≡ placeAnswer r k room) × (room ≡ placeRoom r k room)
-    unfolding placeAnswer placeRoom
-    place-small h =
-        let t = lt-leb (lineCount r) k (omega arith) in
-        let s = lt-ltb (length room) (length (lineOf r k)) (omega arith) in
-        (rw (t, s), rw (t, s))
+  pub place-there : k < lineCount r → (placed (putAnswer (lineOf r k) room) ≡ placeAnswer r k room) × (putRoom (lineOf r k) room ≡ placeRoom r k room)
+  unfolding placeAnswer placeRoom
+  place-there h = let t = lt-leb (lineCount r) k h in (rw t, rw t)
 
-    pub place-done : (after : List ℕ) → n ≤ length room → after ≡ lineOf r k ++ drop n room
-        → (Wrote n ≡ placeAnswer r k room) × (after ≡ placeRoom r k room)
-    unfolding placeAnswer placeRoom
-    place-done after h a =
-        let t = lt-leb (lineCount r) k (omega arith) in
-        let s = le-ltb (length room) (length (lineOf r k)) (omega arith) in
-        (rw (t, s) (ap Wrote d), rw (t, s) (a ∙ ap (λ (i : ℕ). lineOf r k ++ drop i room) d))
+  -- a lent room keeps its length
+  pub room-kept : length (placeRoom r k room) ≡ length room
+  room-kept =
+      lt-or k (lineCount r) (λ l. sym (ap length (place-there l .1)) ∙ put-kept (lineOf r k) room) (λ h. sym (ap length (place-none h .1)))
 
--- a lent room keeps its length
-pub room-kept : (r : Reading) (k : ℕ) (room : List ℕ) → length (placeRoom r k room) ≡ length room
-room-kept r k room =
-    lt-or k (lineCount r)
-    (λ l.
-    lt-or (length room) (length (lineOf r k))
-    (λ h. sym (ap length (place-small r k (lineCount r) room refl l (length (lineOf r k)) refl h .1)))
-    (λ h.
-    sym (ap length (place-done r k (lineCount r) room refl l (length (lineOf r k)) refl (lineOf r k ++ drop (length (lineOf r k)) room) h refl .1))
-    ∙ (length-append (lineOf r k) (drop (length (lineOf r k)) room) ∙ omega (arith, length-drop (length (lineOf r k)) room))))
-    (λ h. sym (ap length (place-none r k (lineCount r) room refl h .1)))
-
--- how many bytes an answer says were written
-abbrev sizeOf : Placed → ℕ
-sizeOf (Wrote n) = n
-sizeOf NoRoom = 0
-sizeOf NoLine = 0
-
--- what was written fits the room
-pub wrote-fits : (r : Reading) (k : ℕ) (room : List ℕ) (n : ℕ) → Wrote n ≡ placeAnswer r k room → n ≤ length room
-wrote-fits r k room n e =
-    lt-or k (lineCount r)
-    (λ l.
-    lt-or (length room) (length (lineOf r k))
-    (λ h. omega (arith, ap sizeOf (e ∙ sym (place-small r k (lineCount r) room refl l (length (lineOf r k)) refl h .0))))
-    (λ h.
-    omega
-    (arith, h, ap sizeOf (e ∙ sym (place-done r k (lineCount r) room refl l (length (lineOf r k)) refl (lineOf r k ++ drop (length (lineOf r k)) room) h refl .0)))))
-    (λ h. omega (arith, ap sizeOf (e ∙ sym (place-none r k (lineCount r) room refl h .0))))
+  -- what was written fits the room
+  pub wrote-fits : (n : ℕ) → Wrote n ≡ placeAnswer r k room → n ≤ length room
+  wrote-fits n e =
+      lt-or k (lineCount r)
+      (λ l. was-put (putAnswer (lineOf r k) room) refl (e ∙ sym (place-there l .0)))
+      (λ h. let z : Wrote n ≡ NoLine = e ∙ sym (place-none h .0) in let f : _≡_ {A = ℕ} 0 1 = cc in absurd (omega arith))
+    where
+      was-put : (a : Put) → a ≡ putAnswer (lineOf r k) room → Wrote n ≡ placed a → n ≤ length room
+      was-put (PutWrote m) q w = let same : n ≡ m = cc in omega (arith, put-fits (lineOf r k) room m q)
+      was-put PutNoRoom q w = let f : _≡_ {A = ℕ} 0 1 = cc in absurd (omega arith)

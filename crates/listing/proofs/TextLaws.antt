@@ -1,14 +1,17 @@
 -- Laws of texts that grow.
-use Prim.Native.Nat.{ℕ, _+_, _≤_, _<_}
+use Prim.Native.Nat.{ℕ, _+_, _≤_, _<_, min}
 use mathlib.Core.Path.{_≡_, refl, sym, ap, _∙_}
 use mathlib.Core.List.{List, [], _∷_, _++_, append-nil, append-assoc}
 use native.Mathlib.Numerals.{add-one}
 use native.Mathlib.Omega.{arith}
 use borrow.Author.Tests.{lt-ltb, le-ltb}
-use lib.ListN.{length, take, drop, getD, set, length-append}
+use lib.ListN.{length, take, drop, getD, set, length-append, length-drop, length-take}
 use lib.Seq.{take-suc, take-suc-set, length-take-le, take-all}
+use Rattle.laws.proofs.Decisions.{lt-or}
 use Rattle.laws.proofs.ListLaws.{front-more}
-use Rattle.listing.specs.Texts.{mostText, withByte, withAll}
+use Rattle.listing.specs.declared.Put.the-variants.{Wrote, NoRoom}
+use Rattle.listing.specs.declared.Text.{Text}
+use Rattle.listing.specs.Texts.{mostText, putAnswer, putRoom, textOf, withByte, withAll}
 
 -- ---- one byte
 
@@ -72,3 +75,42 @@ then l xs ys p q = q ∙ ap (λ (k : List ℕ). withAll k ys) p ∙ sym (all-app
 -- a line begins with nothing
 pub first : (xs : List ℕ) {t u : List ℕ} → t ≡ [] → u ≡ withAll t xs → u ≡ withAll [] xs
 first xs p q = q ∙ ap (λ (k : List ℕ). withAll k xs) p
+
+-- ---- into a room
+
+-- a text shows as many bytes as it says, and no more than it has
+pub text-length : (t : Text) → length (t .bytes) ≡ mostText → length (textOf t) ≡ min (t .len) mostText
+text-length t e = length-take (t .len) (t .bytes) ∙ ap (min (t .len)) e
+
+-- so what it shows is its first bytes, as many
+pub text-front : (t : Text) (n : ℕ) → length (t .bytes) ≡ mostText → n ≡ length (textOf t) → take n (t .bytes) ≡ textOf t
+text-front t n e h =
+    let l = text-length t e in
+    lt-or (t .len) mostText
+    (λ b. let same : n ≡ t .len = omega arith in ap (λ (m : ℕ). take m (t .bytes)) same)
+    (λ b. take-all n (t .bytes) (omega arith) ∙ sym (take-all (t .len) (t .bytes) (omega arith)))
+
+module _ (l room : List ℕ) where
+  pub put-small : length room < length l → (NoRoom ≡ putAnswer l room) × (room ≡ putRoom l room)
+  unfolding putAnswer putRoom
+  put-small h = let t = lt-ltb (length room) (length l) h in (rw t, rw t)
+
+  pub put-done : (n : ℕ) → n ≡ length l → n ≤ length room → (Wrote n ≡ putAnswer l room) × (l ++ drop n room ≡ putRoom l room)
+  unfolding putAnswer putRoom
+  put-done n d h =
+      let t = le-ltb (length room) (length l) (omega arith) in
+      (rw t (ap Wrote d), rw t (ap (λ (i : ℕ). l ++ drop i room) d))
+
+  -- a lent room keeps its length
+  pub put-kept : length (putRoom l room) ≡ length room
+  put-kept =
+      lt-or (length room) (length l)
+      (λ h. sym (ap length (put-small h .1)))
+      (λ h. sym (ap length (put-done (length l) refl h .1)) ∙ (length-append l (drop (length l) room) ∙ omega (arith, length-drop (length l) room)))
+
+  -- what was written fits the room
+  pub put-fits : (n : ℕ) → Wrote n ≡ putAnswer l room → n ≤ length room
+  put-fits n e =
+      lt-or (length room) (length l)
+      (λ h. let z : Wrote n ≡ NoRoom = e ∙ sym (put-small h .0) in let f : _≡_ {A = ℕ} 0 1 = cc in absurd (omega arith))
+      (λ h. let z : Wrote n ≡ Wrote (length l) = e ∙ sym (put-done (length l) refl h .0) in let same : n ≡ length l = cc in omega arith)

@@ -5,7 +5,6 @@ use Prim.Native.Nat.{ℕ, _+_, _-_}
 use mathlib.Core.Bool.{cond}
 use mathlib.Core.List.{List, _++_}
 use lib.Dec.{ltb, leb, eqb}
-use lib.ListN.{length, drop}
 use Rattle.terms.specs.Refusals.{numberOf}
 use Rattle.terms.specs.declared.Verdict.{Verdict}
 use Rattle.terms.specs.declared.Verdict.the-variants.{Accepted, Refused}
@@ -25,6 +24,9 @@ use Rattle.closing.specs.declared.NextStep.the-variants.{NoStep, ToBegin, ToCom
 use Rattle.book.specs.declared.Reading.{Reading}
 use Rattle.listing.specs.declared.Placed.{Placed}
 use Rattle.listing.specs.declared.Placed.the-variants.{Wrote, NoRoom, NoLine}
+use Rattle.listing.specs.declared.Put.{Put}
+use Rattle.listing.specs.declared.Put.the-variants.{Wrote as PutWrote, NoRoom as PutNoRoom}
+use Rattle.listing.specs.Texts.{putAnswer, putRoom}
 use Rattle.listing.specs.Words.{bookAccepted, bookRefused, transactionWord, operationWord, sagaWord, idleWord, activeWord, committedWord, abortedWord, readWord, writeWord, noneWord, beginWord, commitWord, abortWord, blank, lineFeed, decimal}
 
 -- ---- the words of states, marks and steps
@@ -89,10 +91,12 @@ lineOf r k = cond (eqb k 0) (firstLineBy (r .answer) (r .events) (r .place)) (la
 
 -- ---- into a lent room: the line at its front and the rest as it was; or nothing is touched
 
+abbrev pub placed : Put → Placed
+placed (PutWrote n) = Wrote n
+placed PutNoRoom = NoRoom
+
 unfoldable pub placeAnswer : Reading → ℕ → List ℕ → Placed
-placeAnswer r k room =
-    cond (leb (lineCount r) k) NoLine (cond (ltb (length room) (length (lineOf r k))) NoRoom (Wrote (length (lineOf r k))))
+placeAnswer r k room = cond (leb (lineCount r) k) NoLine (placed (putAnswer (lineOf r k) room))
 
 unfoldable pub placeRoom : Reading → ℕ → List ℕ → List ℕ
-placeRoom r k room =
-    cond (leb (lineCount r) k) room (cond (ltb (length room) (length (lineOf r k))) room (lineOf r k ++ drop (length (lineOf r k)) room))
+placeRoom r k room = cond (leb (lineCount r) k) room (putRoom (lineOf r k) room)

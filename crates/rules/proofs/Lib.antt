@@ -3,3 +3,4 @@ pub mod PhaseLaws
 pub mod StateLaws
 pub mod LentLaws
 pub mod RuleLaws
+pub mod LeavesAloneHolds

@@ -50,6 +50,13 @@ module _ (begins : Bool) (ts : List Transaction) (t : ℕ) (d : Dependency) wher
       → b ≡ barredBy begins ts t d
   own-dependent e base bars = rw (eq-eqb (d .dependent) t e) (bars ∙ ap (kindBars begins (d .kind)) base)
 
+-- ---- all of them
+
+-- where none is declared none bars
+pub none-declared : (begins : Bool) (tables : Tables) (ts : List Transaction) (t : ℕ) → dependencyCount tables ≡ 0 → declaredBars begins tables ts t ≡ false
+unfolding declaredBars
+none-declared begins tables ts t none = any-off (dependencyCount tables) (λ i. barredBy begins ts t (dependencyAt tables i)) (λ i l. absurd (omega arith))
+
 -- ---- all of them, by a sheet that says what the tables say
 
 abbrev pub barsOn : Bool → List ℕ → List Transaction → ℕ → ℕ → Bool

@@ -19,7 +19,7 @@ use Rattle.laws.proofs.Bools.{bool-cases}
 use Rattle.laws.proofs.Decisions.{same-or, lt-or}
 use Rattle.laws.proofs.IndexLaws.{any-elim, off-any}
 use Rattle.laws.proofs.SameLaws.{count-same, first-same}
-use Rattle.sets.specs.Sets.{mem, inserted, setOf}
+use Rattle.sets.specs.Sets.{mem, inserted, setOf, less}
 
 two-pos : 0 < 2
 two-pos = zero-lt-suc 1
@@ -70,12 +70,15 @@ digit-off (suc zero) (suc (suc v)) p q = absurd (not-suc-le-zero (le-of-suc-le-s
 digit-off (suc (suc u)) v p q = absurd (not-suc-le-zero (le-of-suc-le-suc (le-of-suc-le-suc p)))
 
 -- a set without what it shares with another
-pub mem-without : (x y t : ℕ) → mem (bitXor x (bitAnd x y)) t ≡ (mem x t && not (mem y t))
-unfolding mem
-mem-without x y t =
+mem-less : (x y t : ℕ) → mem (less x y) t ≡ (mem x t && not (mem y t))
+unfolding mem less
+mem-less x y t =
     ap (λ (n : ℕ). eqb (n % 2) 1) (xor-shr x (bitAnd x y) t ∙ ap (bitXor (x / 2 ^ t)) (and-shr x y t))
     ∙ ap (λ (n : ℕ). eqb n 1) (xor-mod (x / 2 ^ t) (bitAnd (x / 2 ^ t) (y / 2 ^ t)) 1 ∙ ap (bitXor (x / 2 ^ t % 2)) (and-mod (x / 2 ^ t) (y / 2 ^ t) 1))
     ∙ digit-off (x / 2 ^ t % 2) (y / 2 ^ t % 2) (mod-lt (x / 2 ^ t) two-pos) (mod-lt (y / 2 ^ t) two-pos)
+
+pub less-members : (x y r : ℕ) → r ≡ less x y → (t : ℕ) → mem r t ≡ (mem x t && not (mem y t))
+less-members x y r e t = ap (λ (s : ℕ). mem s t) e ∙ mem-less x y t
 
 -- the set of k alone
 pub mem-single : (k t : ℕ) → mem (2 ^ k) t ≡ eqb t k

@@ -1,11 +1,9 @@
 // A set of transactions is held as the bits of one number: bit t is 1 when t is in the set.
 use terms::Book;
 ghost use mathlib.Core.Path.{_≡_};
-ghost use mathlib.Core.Bool.{not, _&&_};
-ghost use Prim.Native.Nat.{ℕ};
 ghost use Rattle.laws.specs.Index.{countBelow, firstBelow};
 ghost use Rattle.terms.specs.Limits.{mostTransactions};
-ghost use Rattle.sets.specs.Sets.{mem, inserted};
+ghost use Rattle.sets.specs.Sets.{mem, inserted, less};
 
 // Whether t is in the set; a number past 63 is in none.
 pub fn member(set: u64, t: usize) -> bool
@@ -29,7 +27,7 @@ pub fn with_member(set: u64, t: usize) -> u64
 
 // Those in the set that are not among the others.
 pub fn without(set: u64, others: u64) -> u64
-    ensures { λ r. ⌜ ((k : ℕ) → mem r k ≡ (mem set k && not (mem others k))) ⌝ }
+    ensures { λ r. ⌜ r ≡ less set others ⌝ }
 {
     set ^ (set & others)
 }

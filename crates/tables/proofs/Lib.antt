@@ -12,3 +12,4 @@ pub mod RefusedLaws
 pub mod PassLaws
 pub mod CircleLaws
 pub mod NeverMovesRefusedHolds
+pub mod WrittenLaws

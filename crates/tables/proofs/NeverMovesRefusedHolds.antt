@@ -220,6 +220,9 @@ module _ (cap : ℕ) (s : List ℕ) where
               clash (round-stuck (tablesBy Permitted cap s .tables) (accepted-well Permitted cap s (g .0 .0) (g .0 .1)) (g .1 .0)) (h (g .0 .0) (g .0 .1))),
         );
         others-first = λ r p e. by-test (λ (x : TablesRead). x ≡ tablesBy Permitted cap s) (λ at f h. no-read (sym e ∙ f)) (λ h. refl);
+        no-circle = λ at e no.
+            by-test (λ (r : TablesRead). r ≡ tablesBy Permitted cap s)
+            (λ x f h. absurd (no (stuck-round (tablesBy Permitted cap s .tables) (accepted-well Permitted cap s at e) h))) (λ h. refl);
         accepted = λ at. by-test (λ (x : TablesRead). x .answer ≡ Read at → tablesBy Permitted cap s ≡ x) (λ x f h. no-read) (λ h f. refl);
       }
     where

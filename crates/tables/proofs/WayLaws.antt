@@ -16,7 +16,6 @@ use Rattle.number.proofs.Spelling.{no-value}
 use Rattle.number.specs.Number.{numberWithin, noFields, rowAt}
 use Rattle.number.proofs.FieldLaws.{by-field, within-next}
 use Rattle.number.proofs.Beginnings.{Agrees}
-use Rattle.number.proofs.Passing.{Passes}
 use Rattle.number.proofs.RowLaws.{RowInside, row-inside, row-fault}
 use Rattle.tables.specs.declared.Circles.{Circles}
 use Rattle.tables.specs.declared.Circles.the-variants.{Forbidden, Permitted}
@@ -104,7 +103,6 @@ module _ (cap : ℕ) (s : List ℕ) where
       record {
         later = omega (arith, i .later);
         ends = omega (arith, i .ends);
-        passed = subst (Passes cap s at) q (i .passed);
         cut = λ z. ap entryBy (i .cut (omega arith));
       })
       (λ r p f h. let z : _≡_ {A = ℕ} 0 1 = cc in absurd (omega arith))

@@ -10,10 +10,11 @@ use Rattle.terms.specs.declared.Refusal.{Refusal}
 use Rattle.terms.specs.declared.Refusal.the-variants.{NeverMoves}
 use Rattle.sets.specs.Reach.{Leads}
 use Rattle.number.specs.Number.{andThen, numberAt}
-use Rattle.tables.specs.Sorts.{numberOfAll}
+use Rattle.tables.specs.Sorts.{numberOfAll, sagasOf}
 use Rattle.tables.specs.Dependencies.{kindNumber, dependencyAt, allowed, risesFrom}
 use Rattle.tables.specs.Circles.{beginLink}
 use Rattle.tables.specs.Reading.{tablesBy}
+use Rattle.tables.specs.Written.{declaredOf}
 use Rattle.tables.specs.declared.Circles.{Circles}
 use Rattle.tables.specs.declared.Circles.the-variants.{Forbidden, Permitted}
 use Rattle.tables.specs.declared.Tables.{Tables}
@@ -36,6 +37,15 @@ pub record Well (t : Tables) : Type 0 where
 -- tables that reading accepts are well formed, circles permitted or not
 abbrev pub AcceptedWell : Type 0
 AcceptedWell = (circles : Circles) (cap : ℕ) (s : List ℕ) (at : ℕ) → tablesBy circles cap s .answer ≡ Read at → Well (tablesBy circles cap s .tables)
+
+-- the same tables, as far as anything looks at them: what stands in their arrays behind the counts is never looked at
+pub record SameTables (t u : Tables) : Type 0 where
+  pub sagas : t .sagas ≡ u .sagas
+  pub steps : sagasOf t ≡ sagasOf u
+  pub plain : t .plain ≡ u .plain
+  pub objects : t .objects ≡ u .objects
+  pub declared : t .declared ≡ u .declared
+  pub entries : declaredOf t ≡ declaredOf u
 
 -- ---- tables that can never move
 
@@ -60,6 +70,8 @@ pub record CirclesRefused (cap : ℕ) (s : List ℕ) : Type 0 where
   pub others-first : (r : Refusal) (p : ℕ) → tablesBy Permitted cap s .answer ≡ Refused r p → tablesBy Forbidden cap s ≡ tablesBy Permitted cap s
   -- what is accepted is read as it was
   pub accepted : (at : ℕ) → tablesBy Forbidden cap s .answer ≡ Read at → tablesBy Permitted cap s ≡ tablesBy Forbidden cap s
+  -- and what does not go round is accepted where circles are forbidden too
+  pub no-circle : (at : ℕ) → tablesBy Permitted cap s .answer ≡ Read at → (GoesRound (tablesBy Permitted cap s .tables) → ⊥) → tablesBy Forbidden cap s ≡ tablesBy Permitted cap s
 
 abbrev pub NeverMovesRefused : Type 0
 NeverMovesRefused = (cap : ℕ) (s : List ℕ) → CirclesRefused cap s

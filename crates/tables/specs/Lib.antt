@@ -5,3 +5,4 @@ pub mod Dependencies
 pub mod Circles
 pub mod Reading
 pub mod Accepted
+pub mod Written

@@ -1,2 +1,3 @@
 -- Laws of the table of refusals.
 pub mod RefusalLaws
+pub mod DocumentedHolds

@@ -6,7 +6,7 @@ use lib.Dec.{eqb}
 use borrow.Author.Tests.{eq-eqb, eqb-true}
 use Rattle.laws.specs.Index.{anyBelow}
 use Rattle.laws.proofs.Bools.{and-off, and-rest, not-off, off-not, on-and, on-not}
-use Rattle.laws.proofs.IndexLaws.{any-off, off-any}
+use Rattle.laws.proofs.IndexLaws.{any-elim, any-off, off-any}
 use Rattle.terms.specs.Events.{isWrite}
 use Rattle.ties.specs.Operations.{isAborted, opAt, size}
 use Rattle.ties.specs.Ties.{cleanFor, dirties, dirtyAt, readBy, tied, tiedTo}
@@ -48,3 +48,16 @@ module _ (ops : Ops) (t q : ℕ) where
       (λ w.
       and-off (tiedTo (opAt ops i) (opAt ops q) q) (not (cleanFor t (opAt ops i)))
       (λ tie. not-off (cleanFor t (opAt ops i)) (clean r i w (tie-made ops i q (record { accepted = accepted; earlier = l; holds = tie })))))))
+
+  -- the write that makes it dirty
+  pub dirty-by : q < size ops → dirtyAt ops t q ≡ true
+      → (readBy t (opAt ops q) ≡ true) × ((p : ℕ) × (isWrite (opAt ops p .mark) ≡ true) × (tied ops p q ≡ true) × (cleanFor t (opAt ops p) ≡ false))
+  unfolding dirtyAt
+  dirty-by accepted d =
+      let both = on-and (readBy t (opAt ops q)) (anyBelow q (λ i. dirties t (opAt ops q) q (opAt ops i))) d in
+      let w = any-elim q (λ i. dirties t (opAt ops q) q (opAt ops i)) (both .1) in
+      let x = on-and (isWrite (opAt ops (w .0) .mark)) (tiedTo (opAt ops (w .0)) (opAt ops q) q && not (cleanFor t (opAt ops (w .0)))) (w .2) in
+      let y = on-and (tiedTo (opAt ops (w .0)) (opAt ops q) q) (not (cleanFor t (opAt ops (w .0)))) (x .1) in (
+        both .0,
+        (w .0, x .0, tie-made ops (w .0) q (record { accepted = accepted; earlier = w .1; holds = y .0 }), on-not (cleanFor t (opAt ops (w .0))) (y .1)),
+      )

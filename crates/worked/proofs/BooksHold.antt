@@ -28,7 +28,8 @@ use Rattle.items.proofs.ShortEvents.{abort-behind, begin-behind, commit-behind}
 use Rattle.histories.specs.Histories.{reached}
 use Rattle.histories.proofs.AcceptedWhenHolds.{accepted-when}
 use Rattle.histories.proofs.JudgePromisesHold.{judge-promises}
-use Rattle.histories.proofs.RunLaws.{lines-off, run-none}
+use Rattle.judge.proofs.EventLaws.{lines-off}
+use Rattle.histories.proofs.RunLaws.{run-none}
 use Rattle.closing.specs.Closing.{closing, eventOf, outstanding}
 use Rattle.closing.specs.Demand.{allForeign}
 use Rattle.closing.specs.declared.NextStep.{NextStep}

@@ -92,8 +92,9 @@ pCases =
     ∷ case (book (crossed ++ (0x03 ∷ 0x01 ∷ 0x02 ∷ 0x00 ∷ []))) (said 0 8 0 0 NoStep)
     -- P10: 0 writes a, 1 reads a, commit 1: 15
     ∷ case (book (written ++ (0x04 ∷ 0x01 ∷ 0x00 ∷ 0x00 ∷ 0x02 ∷ 0x01 ∷ []))) (said 15 4 17 0 NoStep)
-    -- P11: if 0 first delegates its write to 1: accepted
+    -- P11: if 0 first delegates its write to 1: accepted, whether it does so before 1 reads or only before 1 commits
     ∷ case (book (written ++ (0x05 ∷ 0x00 ∷ 0x01 ∷ 0x00 ∷ 0x04 ∷ 0x01 ∷ 0x00 ∷ 0x00 ∷ 0x02 ∷ 0x01 ∷ []))) (said 0 6 0 0 NoStep)
+    ∷ case (book (written ++ (0x04 ∷ 0x01 ∷ 0x00 ∷ 0x00 ∷ 0x05 ∷ 0x00 ∷ 0x01 ∷ 0x00 ∷ 0x02 ∷ 0x01 ∷ []))) (said 0 6 0 0 NoStep)
     -- P12: saga commit with Tn active: 13
     ∷ case (book (0x01 ∷ 0x01 ∷ 0x01 ∷ 0x00 ∷ 0x00 ∷ 0x00 ∷ 0x01 ∷ 0x00 ∷ 0x01 ∷ 0x01 ∷ 0x02 ∷ 0x00 ∷ [])) (said 13 2 10 2 (ToAbort 0))
     ∷ []
@@ -102,7 +103,7 @@ pCases =
 abbrev pub PCasesHold : Type 0
 PCasesHold = map (λ (c : Case). answerTo (c .question)) pCases ≡ map (λ (c : Case). c .answer) pCases
 
--- ---- no line of the table of refusals is dead: for each number from 2 to 18, and for 20 to 22, a book that gets it
+-- ---- no line of the table of refusals is dead: for each number from 1 to 18, and for 20 to 22, a book that gets it
 
 -- a saga of 2 steps, whose C1 is 3, and plain 4 to 6: 4 reads a; 5 writes a, writes b and commits; 3 reads b and writes c; 4 writes c
 abbrev barsUndo : List ℕ
@@ -176,7 +177,12 @@ outcomeNumber (Refuses r events place) = numberOf r
 abbrev pub nothingDeclared : List ℕ
 nothingDeclared = 1 ∷ 0 ∷ 0 ∷ 0 ∷ 0 ∷ []
 
+-- and 1: so many zeros
+abbrev pub tooLong : List ℕ
+tooLong = replicate 65537 0
+
 pub record NoLineDead : Type 0 where
+  pub by-length : verdictNumber (readingOf ceiling1 tooLong .answer) ≡ 1
   pub by-books : map (λ (s : List ℕ). verdictNumber (readingOf ceiling1 s .answer)) refusedBooks
       ≡ 2 ∷ 3 ∷ 4 ∷ 5 ∷ 6 ∷ 7 ∷ 8 ∷ 9 ∷ 10 ∷ 11 ∷ 12 ∷ 13 ∷ 14 ∷ 15 ∷ 16 ∷ 17 ∷ 18 ∷ 20 ∷ 21 ∷ 22 ∷ []
   pub by-writing : outcomeNumber (writeOutcome ceiling1 nothingDeclared []) ≡ 19

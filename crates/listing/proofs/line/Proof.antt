@@ -1,6 +1,5 @@
-use mathlib.Core.Path.{_≡_, _∙_, ap, sym}
+use mathlib.Core.Path.{_∙_, ap, sym}
 use mathlib.Core.List.{[]}
-use lib.ListN.{length}
 use Rattle.listing.specs.Texts.{withAll}
 use Rattle.listing.proofs.ListingLaws.{line-first, line-later, line-whole}
 use borrow.Author.Needs.{needs}
@@ -13,8 +12,7 @@ first-line-requires c κs = search needs
 returns : tie.Need-returns
 returns c =
     let a = c .before .before .args in
-    let b : length (c .first-line .result .bytes) ≡ 96 = search needs in
-    line-whole (a .reading) (a .k) (c .first-line .result) b
+    line-whole (a .reading) (a .k)
     (c .first-line .ensures ∙ ap (withAll []) (sym (line-first (a .reading) (a .k) (c .before .if1 .taken))))
 
 sub-later : tie.Need-sub-later
@@ -26,8 +24,7 @@ later-line-requires c κs = search needs
 returns-2 : tie.Need-returns-2
 returns-2 c =
     let a = c .before .before .args in
-    let b : length (c .later-line .result .bytes) ≡ 96 = search needs in
-    line-whole (a .reading) (a .k) (c .later-line .result) b
+    line-whole (a .reading) (a .k)
     (c .later-line .ensures ∙ ap (withAll []) (sym (line-later (a .reading) (a .k) (c .before .if1 .left))))
 
 pub line-spec : {M : Type 1} → statement M

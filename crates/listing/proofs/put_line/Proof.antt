@@ -1,9 +1,11 @@
-use mathlib.Core.Path.{_≡_, _∙_, ap}
-use mathlib.Core.List.{List, _++_}
+use mathlib.Core.Path.{_≡_, sym, ap, _∙_}
+use mathlib.Core.List.{List}
 use Prim.Native.Nat.{ℕ}
+use native.Mathlib.Omega.{arith}
 use denote.Ref.{now}
-use lib.ListN.{length, drop}
-use Rattle.listing.proofs.ListingLaws.{line-length, place-none, place-small, place-done}
+use Rattle.listing.specs.Lines.{placed}
+use Rattle.listing.specs.Texts.{putAnswer, putRoom}
+use Rattle.listing.proofs.ListingLaws.{place-none, place-there}
 use borrow.Author.Needs.{needs}
 use Rattle.listing.proofs.put_line.Statement.{statement}
 use Rattle.listing.proofs.put_line.Tie as tie
@@ -14,35 +16,47 @@ line-count-requires c κs = search needs
 returns : tie.Need-returns
 returns c =
     let a = c .before .before .before .args in
-    place-none (a .reading) (a .k) (c .before .line-count .result) (now (a .room)) (c .before .line-count .ensures) (c .if1 .taken)
+    place-none (a .reading) (a .k) (now (a .room)) (omega (arith, c .before .line-count .ensures, c .if1 .taken))
 
 line-requires : tie.Need-line-requires
 line-requires c κs = search needs
 
-returns-2 : tie.Need-returns-2
-returns-2 c =
-    let a = c .before .before .before .before .before .args in
-    let lines = c .before .before .before .line-count in
-    let text = c .before .line .result in
-    let b : length (text .bytes) ≡ 96 = search needs in
-    place-small (a .reading) (a .k) (lines .result) (now (a .room)) (lines .ensures) (c .before .before .if1 .left) (text .len)
-    (line-length (a .reading) (a .k) text b (c .before .line .ensures .0)) (c .if2 .taken)
+put-requires : tie.Need-put-requires
+put-requires c κs = search needs
 
-copy-requires : tie.Need-copy-requires
-copy-requires c κs = search needs
+enum-known-n : tie.Need-enum-known-n
+enum-known-n c = search needs
+
+enum-told : tie.Need-enum-told
+enum-told c = search needs
 
 same-length : tie.Need-same-length
 same-length c = search needs
 
+returns-2 : tie.Need-returns-2
+returns-2 c =
+    let a = c .before .before .before .before .before .before .before .before .before .before .before .args in
+    let room = now (a .room) in
+    let p = c .before .before .before .before .before .put in
+    let l = c .before .before .before .before .before .before .before .line in
+    let there = place-there (a .reading) (a .k) room (omega (arith, c .before .before .before .before .before .before .before .before .before .line-count .ensures, c .before .before .before .before .before .before .before .before .if1 .left)) in (
+      ap placed (sym (c .before .n .given .1) ∙ p .ensures .0 ∙ ap (λ (x : List ℕ). putAnswer x room) (l .ensures)) ∙ there .0,
+      p .ensures .1 ∙ ap (λ (x : List ℕ). putRoom x room) (l .ensures) ∙ there .1,
+    )
+
+same-length-2 : tie.Need-same-length-2
+same-length-2 c = search needs
+
 returns-3 : tie.Need-returns-3
 returns-3 c =
-    let a = c .before .before .before .before .before .before .before .before .before .args in
-    let lines = c .before .before .before .before .before .before .before .line-count in
-    let text = c .before .before .before .before .before .line .result in
-    let b : length (text .bytes) ≡ 96 = search needs in
-    place-done (a .reading) (a .k) (lines .result) (now (a .room)) (lines .ensures) (c .before .before .before .before .before .before .if1 .left) (text .len)
-    (line-length (a .reading) (a .k) text b (c .before .before .before .before .before .line .ensures .0)) _ (c .before .before .before .before .if2 .left)
-    (c .before .before .copy .ensures ∙ ap (λ (l : List ℕ). l ++ drop (text .len) (now (a .room))) (c .before .before .before .before .before .line .ensures .0))
+    let a = c .before .before .before .before .before .before .before .before .before .before .args in
+    let room = now (a .room) in
+    let p = c .before .before .before .before .put in
+    let l = c .before .before .before .before .before .before .line in
+    let there = place-there (a .reading) (a .k) room (omega (arith, c .before .before .before .before .before .before .before .before .line-count .ensures, c .before .before .before .before .before .before .before .if1 .left)) in (
+      ap placed (sym (c .enum-told .given .1) ∙ p .ensures .0 ∙ ap (λ (x : List ℕ). putAnswer x room) (l .ensures)) ∙ there .0,
+      p .ensures .1 ∙ ap (λ (x : List ℕ). putRoom x room) (l .ensures) ∙ there .1,
+    )
 
 pub put-line-spec : {M : Type 1} → statement M
 put-line-spec =
@@ -51,7 +65,10 @@ put-line-spec =
     line-count-requires
     returns
     line-requires
-    returns-2
-    copy-requires
+    put-requires
+    enum-known-n
+    enum-told
     same-length
+    returns-2
+    same-length-2
     returns-3)

@@ -1,3 +1,4 @@
+use Rattle.sets.proofs.SetLaws.{less-members}
 use borrow.Author.Needs.{needs}
 use native.Mathlib.Omega.{arith}
 use Prim.Native.Nat.{ℕ, _<_, _-_, _^_}
@@ -56,7 +57,7 @@ returns-2 c =
     let p = c .before .before .before .before .one-pass in
     let w = c .before .without in
     spread-done (Order (a .ops .now) (a .total)) (a .start) 0 (a .start) (l .reached) (p .result .reached) (p .result .missed) (l .inv .1) (found (a .ops .now) (a .total) (a .start) (l .reached) (p .result) (p .ensures))
-    (w .result) (w .ensures) (c .if2 .taken)
+    (w .result) (less-members _ _ (w .result) (w .ensures)) (c .if2 .taken)
 
 loop-less : tie.Need-loop-less Inv-loop μ-loop
 loop-less c =
@@ -65,7 +66,7 @@ loop-less c =
     let p = c .before .before .before .before .one-pass in
     let w = c .before .without in
     let less : l .reached < p .result .reached = spread-less (Order (a .ops .now) (a .total)) (a .start) 0 (a .start) (l .reached) (p .result .reached) (p .result .missed) (l .inv .1) (found (a .ops .now) (a .total) (a .start) (l .reached) (p .result) (p .ensures))
-    (w .result) (w .ensures) (fits c) (omega arith) (c .if2 .left) in
+    (w .result) (less-members _ _ (w .result) (w .ensures)) (fits c) (omega arith) (c .if2 .left) in
     let most : p .result .reached < 2 ^ 64 = fits c in
     omega arith
 

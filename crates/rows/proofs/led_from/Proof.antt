@@ -8,7 +8,7 @@ use lib.ListN.{getD}
 use Rattle.laws.proofs.Bools.{clash}
 use Rattle.laws.proofs.Decisions.{lt-or}
 use Rattle.sets.specs.Sets.{mem}
-use Rattle.sets.proofs.SetLaws.{mem-past, lowest-in}
+use Rattle.sets.proofs.SetLaws.{mem-past, lowest-in, less-members}
 use Rattle.rows.specs.Rows.{memAt}
 use Rattle.rows.proofs.LedLaws.{Growing, growing-first, growing-more, growing-less, growing-end}
 use Rattle.rows.proofs.led_from.Statement.{statement}
@@ -42,7 +42,7 @@ returns c =
     let a = c .before .before .before .args in
     let l = c .before .before .loop in
     let w = c .before .without in
-    growing-end (memAt (a .rows .now)) (a .from) (l .reached) (l .done) (l .inv) (w .result) (w .ensures) (c .if1 .taken)
+    growing-end (memAt (a .rows .now)) (a .from) (l .reached) (l .done) (l .inv) (w .result) (less-members _ _ (w .result) (w .ensures)) (c .if1 .taken)
 
 lowest-requires : tie.Need-lowest-requires Inv-loop μ-loop
 lowest-requires c κs = search needs
@@ -62,7 +62,7 @@ loop-less c =
     let l = c .before .before .before .before .before .loop in
     let w = c .before .before .before .before .without in
     let at = c .before .before .lowest .result in
-    omega (arith, c .with-member .ensures, growing-less (memAt (a .rows .now)) (a .from) (l .reached) (l .done) (l .inv) (w .result) (w .ensures) at (small (c .before .before)) (waits (c .before .before)))
+    omega (arith, c .with-member .ensures, growing-less (memAt (a .rows .now)) (a .from) (l .reached) (l .done) (l .inv) (w .result) (less-members _ _ (w .result) (w .ensures)) at (small (c .before .before)) (waits (c .before .before)))
 
 loop-again : tie.Need-loop-again Inv-loop μ-loop
 loop-again c =
@@ -72,7 +72,7 @@ loop-again c =
     let at = c .before .before .lowest .result in
     let row = getD (a .rows .now) at 0 in
     subst⁻¹ (Growing (memAt (a .rows .now)) (a .from) (bitOr (l .reached) row)) (c .with-member .ensures)
-    (growing-more (memAt (a .rows .now)) (a .from) (l .reached) (l .done) (l .inv) (w .result) (w .ensures) at (small (c .before .before)) (waits (c .before .before)) row (λ k. refl))
+    (growing-more (memAt (a .rows .now)) (a .from) (l .reached) (l .done) (l .inv) (w .result) (less-members _ _ (w .result) (w .ensures)) at (small (c .before .before)) (waits (c .before .before)) row (λ k. refl))
 
 pub led-from-spec : {M : Type 1} → statement M
 led-from-spec =

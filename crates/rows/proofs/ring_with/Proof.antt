@@ -1,3 +1,4 @@
+use Rattle.sets.proofs.SetLaws.{less-members}
 use borrow.Author.Needs.{needs}
 use native.Mathlib.Omega.{arith}
 use Prim.Native.Nat.{ℕ, _<_}
@@ -24,7 +25,7 @@ of-order c =
     ap (λ (R : ℕ → ℕ → Bool). ringWith R (mem (c .before .before .args .some)) (c .before .before .args .v)) (fun-ext (λ a. fun-ext (λ k. c .rows-with .ensures a k)))
 
 shared : (c : tie.After-without2) (k : ℕ) → mem (c .without2 .result) k ≡ (mem (c .before .before .led-from .result) k && mem (c .before .before .before .before .before .before .args .some) k)
-shared c = shared-by (c .before .before .led-from .result) (c .before .before .before .before .before .before .args .some) (c .before .without .result) (c .without2 .result) (c .before .without .ensures) (c .without2 .ensures)
+shared c = shared-by (c .before .before .led-from .result) (c .before .before .before .before .before .before .args .some) (c .before .without .result) (c .without2 .result) (less-members _ _ (c .before .without .result) (c .before .without .ensures)) (less-members _ _ (c .without2 .result) (c .without2 .ensures))
 
 returns : tie.Need-returns
 returns c =

@@ -3,7 +3,7 @@ use Prim.Native.Nat.{_<_}
 use mathlib.Core.Path.{_≡_, sym, ap, _∙_}
 use mathlib.Core.Bool.{Bool, false, not, _&&_}
 use Rattle.sets.specs.Sets.{mem}
-use Rattle.sets.proofs.SetLaws.{mem-alone}
+use Rattle.sets.proofs.SetLaws.{mem-alone, less-members}
 use Rattle.ties.specs.Ties.{isGone}
 use Rattle.ties.proofs.TieLaws.{kept-small}
 use Rattle.rows.proofs.SweepLaws.{swept-gone, swept-live}
@@ -90,7 +90,7 @@ returns-2 c n op i l at s =
     let others = c .before .before .before .without in
     swept-live n op i l (a .p) at (a .users .now) (a .writers .now) (a .rows .now) s (live (c .before .before .before .before .before .before .before .before .before .before)) (tied .result) (others .result) (c .before .with-member2 .result) (c .with-writer .result)
     (tied .ensures)
-    (λ k. others .ensures k ∙ ap (λ (b : Bool). mem (tied .result) k && not b) (ap (λ (x : _). mem x k) (own .ensures) ∙ mem-alone (a .p .responsible) k (small (c .before .before .before .before .before .before .before .before .before .before) .0)))
+    (λ k. less-members (tied .result) (own .result) (others .result) (others .ensures) k ∙ ap (λ (b : Bool). mem (tied .result) k && not b) (ap (λ (x : _). mem x k) (own .ensures) ∙ mem-alone (a .p .responsible) k (small (c .before .before .before .before .before .before .before .before .before .before) .0)))
     (c .before .with-member2 .ensures) (c .with-writer .ensures)
 
 pub sweep-one-spec : {M : Type 1} → statement M

@@ -1,9 +1,11 @@
-use Rattle.sets.proofs.SetLaws.{mem-without}
+use mathlib.Core.Path.{refl}
+use Rattle.sets.specs.Sets.{less}
 use Rattle.sets.proofs.without.Statement.{statement}
 use Rattle.sets.proofs.without.Tie as tie
 
 returns : tie.Need-returns
-returns c k = mem-without (c .args .set) (c .args .others) k
+unfolding less
+returns c = refl
 
 pub without-spec : {M : Type 1} → statement M
 without-spec = tie.close (tie.spec returns)

@@ -1,0 +1,87 @@
+//! A case, and what the second program answers to it. Nothing else is needed
+//! for that, so `bin/told.rs` asks wrong judges by these same lines.
+
+use std::fmt::Write;
+
+/// What is asked: a book to be read, or fields to be written, and the size of
+/// the lent room; or a book to be read with circles permitted in its tables,
+/// which takes no room.
+#[derive(Clone, Debug, PartialEq, Eq)]
+pub enum Case {
+    Book(Vec<u8>, usize),
+    Fields(Vec<u16>, usize),
+    CirclesBook(Vec<u8>),
+}
+
+impl Case {
+    /// What the second program answers.
+    pub fn answer(&self) -> Vec<u8> {
+        match self {
+            Case::Book(book, room) => book_answer(book, *room),
+            Case::Fields(fields, room) => write_answer(fields, *room),
+            Case::CirclesBook(book) => circles_book_answer(book),
+        }
+    }
+}
+
+fn refused_line(refused: second::Refused) -> String {
+    format!(
+        "refused {} {} {}\n",
+        refused.number, refused.events, refused.place
+    )
+}
+
+const PUT: &str = "a text takes every line";
+
+fn book_answer(book: &[u8], room: usize) -> Vec<u8> {
+    let mut text = second::listing(book);
+    put_opening(&mut text, second::opening(book));
+    put_report(&mut text, &second::report(&second::read(book)));
+    let mut fields = vec![0; room];
+    match second::unpack(book, &mut fields) {
+        Ok(count) => {
+            writeln!(text, "unpacked {count}").expect(PUT);
+            for field in &fields[..count] {
+                writeln!(text, "{field}").expect(PUT);
+            }
+        }
+        Err(refused) => text += &refused_line(refused),
+    }
+    text.into_bytes()
+}
+
+fn circles_book_answer(book: &[u8]) -> Vec<u8> {
+    let mut text = second::listing_circles_permitted(book);
+    put_opening(&mut text, second::opening_circles_permitted(book));
+    put_report(
+        &mut text,
+        &second::report(&second::read_circles_permitted(book)),
+    );
+    text.into_bytes()
+}
+
+fn put_opening(text: &mut String, opening: &[u8]) {
+    writeln!(text, "opening {}", opening.len()).expect(PUT);
+}
+
+fn put_report(text: &mut String, report: &second::Report) {
+    writeln!(text, "active {} lowest {}", report.active, report.lowest).expect(PUT);
+    for (earlier, row) in report.pairs.iter().enumerate() {
+        for later in (0..64).filter(|later| row >> later & 1 == 1) {
+            writeln!(text, "{earlier} {later}").expect(PUT);
+        }
+    }
+}
+
+fn write_answer(fields: &[u16], room: usize) -> Vec<u8> {
+    let mut bytes = vec![0; room];
+    match second::write(fields, &mut bytes) {
+        Ok(count) => {
+            let mut answer = format!("written {count}\n").into_bytes();
+            answer.extend_from_slice(&bytes[..count]);
+            answer.push(b'\n');
+            answer
+        }
+        Err(refused) => refused_line(refused).into_bytes(),
+    }
+}
