@@ -45,7 +45,8 @@ fn story_to_go_wrong(random: &mut Random, number: u8) -> Story {
     story
 }
 
-fn story_of_sagas(random: &mut Random) -> Story {
+/// A story of sagas that are moved on, forth and back.
+pub fn story_of_sagas(random: &mut Random) -> Story {
     let mut story = Story::new(tables_for(random, 13));
     let events = random.within(20..=80);
     story.move_sagas(random, events);
@@ -53,7 +54,7 @@ fn story_of_sagas(random: &mut Random) -> Story {
 }
 
 /// A story of one saga of many steps that goes far, and often some way back.
-fn story_of_a_long_saga(random: &mut Random) -> Story {
+pub fn story_of_a_long_saga(random: &mut Random) -> Story {
     let steps = random.within(6..=16) as u16;
     let mut story = Story::new(Tables {
         steps: vec![steps],

@@ -1,16 +1,19 @@
 //! A case, and what the second program answers to it. Nothing else is needed
 //! for that, so `bin/told.rs` asks wrong judges by these same lines.
 
+use second::{NotRead, Plan};
 use std::fmt::Write;
 
 /// What is asked: a book to be read, or fields to be written, and the size of
 /// the lent room; or a book to be read with circles permitted in its tables,
-/// which takes no room.
+/// which takes no room; or the text of a plan of record moves and a book to
+/// tell them from.
 #[derive(Clone, Debug, PartialEq, Eq)]
 pub enum Case {
     Book(Vec<u8>, usize),
     Fields(Vec<u16>, usize),
     CirclesBook(Vec<u8>),
+    Moves(Vec<u8>, Vec<u8>),
 }
 
 impl Case {
@@ -20,6 +23,7 @@ impl Case {
             Case::Book(book, room) => book_answer(book, *room),
             Case::Fields(fields, room) => write_answer(fields, *room),
             Case::CirclesBook(book) => circles_book_answer(book),
+            Case::Moves(plan, book) => moves_answer(plan, book),
         }
     }
 }
@@ -83,5 +87,15 @@ fn write_answer(fields: &[u16], room: usize) -> Vec<u8> {
             answer
         }
         Err(refused) => refused_line(refused).into_bytes(),
+    }
+}
+
+/// The lines of the record move, or the line of the plan that is not
+/// understood. Of a plan that is too long nothing is said.
+fn moves_answer(plan: &[u8], book: &[u8]) -> Vec<u8> {
+    match Plan::from_text(plan) {
+        Ok(plan) => second::move_lines(&plan, book),
+        Err(NotRead::Line(number)) => format!("line {number}\n").into_bytes(),
+        Err(NotRead::TooLong) => Vec::new(),
     }
 }

@@ -2,6 +2,7 @@
 
 use crate::answers::Case;
 use crate::books::{book, field_list};
+use crate::plans::{planned, Planned};
 
 const MOST_ROOM: usize = 65_536;
 
@@ -11,13 +12,17 @@ impl Case {
             Case::Book(..) => b'b',
             Case::Fields(..) => b'w',
             Case::CirclesBook(..) => b'c',
+            Case::Moves(..) => b'm',
         }
     }
 
+    /// The size of the lent room. Plan and book are asked as one piece, so this
+    /// is where the plan ends.
     fn room(&self) -> usize {
         match self {
             Case::Book(_, room) | Case::Fields(_, room) => *room,
             Case::CirclesBook(_) => 0,
+            Case::Moves(plan, _) => plan.len(),
         }
     }
 
@@ -25,6 +30,7 @@ impl Case {
         match self {
             Case::Book(book, _) | Case::CirclesBook(book) => book.clone(),
             Case::Fields(fields, _) => fields.iter().flat_map(|f| f.to_le_bytes()).collect(),
+            Case::Moves(plan, book) => [&plan[..], book].concat(),
         }
     }
 }
@@ -55,7 +61,8 @@ pub fn heading(index: usize) -> Vec<u8> {
 
 /// The cases of a seed: books, and a list of fields after every fourth. Every
 /// third has a room that is about as large as needed. Books whose tables can
-/// never move, and every eighth, are asked with circles permitted too.
+/// never move, and every eighth, are asked with circles permitted too. After
+/// every fourth there is a plan of record moves with a book of its own.
 pub fn made(seed: u64, count: u64) -> Vec<Case> {
     let mut cases = Vec::new();
     for index in 0..count {
@@ -70,6 +77,10 @@ pub fn made(seed: u64, count: u64) -> Vec<Case> {
             let fields = field_list(seed, index);
             let room = self::room(index, fields.len());
             cases.push(Case::Fields(fields, room));
+        }
+        if index % 4 == 3 {
+            let Planned { plan, book } = planned(seed, index);
+            cases.push(Case::Moves(plan, book));
         }
     }
     cases
@@ -95,13 +106,17 @@ pub fn fixed(text: &str) -> Result<Vec<Case>, String> {
 }
 
 fn fixed_case(line: &str) -> Option<Case> {
+    if let Some(planned) = line.strip_prefix("m ") {
+        let (plan, book) = planned.split_once('|')?;
+        let book = numbers(book.split_whitespace(), byte)?;
+        return Some(Case::Moves(plan_text(plan)?, book));
+    }
     let (line, room) = match line.split_once('/') {
         Some((front, size)) => (front, Some(size.trim().parse().ok()?)),
         None => (line, None),
     };
     let mut words = line.split_whitespace();
     let letter = words.next()?;
-    let byte = |word: &str| u8::from_str_radix(word, 16).ok();
     let lent = room.unwrap_or(MOST_ROOM);
     match (letter, room) {
         ("b", _) => Some(Case::Book(numbers(words, byte)?, lent)),
@@ -114,23 +129,78 @@ fn fixed_case(line: &str) -> Option<Case> {
     }
 }
 
-fn numbers<'a, N: Copy>(
-    words: impl Iterator<Item = &'a str>,
-    number: impl Fn(&str) -> Option<N>,
-) -> Option<Vec<N>> {
+fn byte(word: &str) -> Option<u8> {
+    u8::from_str_radix(word, 16).ok()
+}
+
+/// What stands in a line: how often that which follows is repeated, or a part
+/// of the case.
+enum Word<N> {
+    Times(usize),
+    Part(Vec<N>),
+}
+
+fn times<N>(word: &str) -> Option<Word<N>> {
+    let count = word.strip_prefix('x')?.parse().ok()?;
+    Some(Word::Times(count))
+}
+
+fn repeated<N: Copy>(words: impl Iterator<Item = Option<Word<N>>>) -> Option<Vec<N>> {
     let (mut front, mut part, mut times) = (Vec::new(), Vec::new(), 1);
     for word in words {
-        match word.strip_prefix('x') {
-            Some(count) => {
+        match word? {
+            Word::Times(count) => {
                 front.extend(part.repeat(times));
                 part.clear();
-                times = count.parse().ok()?;
+                times = count;
             }
-            None => part.push(number(word)?),
+            Word::Part(more) => part.extend(more),
         }
     }
     front.extend(part.repeat(times));
     Some(front)
+}
+
+fn numbers<'a, N: Copy>(
+    words: impl Iterator<Item = &'a str>,
+    number: impl Fn(&str) -> Option<N>,
+) -> Option<Vec<N>> {
+    repeated(words.map(|word| times(word).or_else(|| Some(Word::Part(vec![number(word)?])))))
+}
+
+/// The text of a plan, given in pieces between quotes: every other part of the
+/// line stands between two of them.
+fn plan_text(line: &str) -> Option<Vec<u8>> {
+    let parts: Vec<&str> = line.split('"').collect();
+    let all_closed = parts.len() % 2 == 1;
+    let words = parts.iter().enumerate().flat_map(|(index, part)| {
+        if index % 2 == 1 {
+            vec![unescaped(part).map(Word::Part)]
+        } else {
+            part.split_whitespace().map(times).collect()
+        }
+    });
+    repeated(words).filter(|_| all_closed)
+}
+
+/// A piece of a plan: `\n` is a line feed, `\t` a tab, `\r` a carriage return, and
+/// `\xFF` the byte with that number.
+fn unescaped(piece: &str) -> Option<Vec<u8>> {
+    let mut parts = piece.split('\\');
+    let mut bytes = parts.next()?.as_bytes().to_vec();
+    for part in parts {
+        let escaped = part.get(..1)?;
+        let (said, rest) = match escaped {
+            "n" => (b'\n', &part[1..]),
+            "t" => (b'\t', &part[1..]),
+            "r" => (b'\r', &part[1..]),
+            "x" => (byte(part.get(1..3)?)?, &part[3..]),
+            _ => return None,
+        };
+        bytes.push(said);
+        bytes.extend_from_slice(rest.as_bytes());
+    }
+    Some(bytes)
 }
 
 #[cfg(test)]
@@ -139,14 +209,17 @@ mod tests {
 
     #[test]
     fn a_line_of_the_fixed_cases() {
-        let text = "# not this\n\nb 01 x2 0A /3\nw 7 300\nc 01 x2 FF x1 03 04\n";
+        let text = "# not this\n\nb 01 x2 0A /3\nw 7 300\nc 01 x2 FF x1 03 04\n\
+                    m \"move A/B\\n\" x2 \"x\\t\" \"#\\r\" x1 \"\\x7Cz\\x22\" | 01 x2 0F\nm | 01\n";
         let cases = fixed(text).unwrap();
         assert_eq!(
             cases,
             [
                 Case::Book(vec![1, 10, 10], 3),
                 Case::Fields(vec![7, 300], MOST_ROOM),
-                Case::CirclesBook(vec![1, 255, 255, 3, 4])
+                Case::CirclesBook(vec![1, 255, 255, 3, 4]),
+                Case::Moves(b"move A/B\nx\t#\rx\t#\r|z\"".to_vec(), vec![1, 15, 15]),
+                Case::Moves(vec![], vec![1]),
             ]
         );
     }
@@ -156,14 +229,27 @@ mod tests {
         let text = include_str!("../fixed.txt");
         let lines = text
             .lines()
-            .filter(|line| line.starts_with(['b', 'w', 'c']));
+            .filter(|line| line.starts_with(['b', 'w', 'c', 'm']));
         assert_eq!(fixed(text).map(|cases| cases.len()), Ok(lines.count()));
     }
 
     #[test]
     fn a_bad_line_is_named() {
         for line in [
-            "o 01", "b 1G", "w 65536", "b 01 /x", "b xx 01", "c 1G", "c 01 /3",
+            "o 01",
+            "b 1G",
+            "w 65536",
+            "b 01 /x",
+            "b xx 01",
+            "c 1G",
+            "c 01 /3",
+            "m 01",
+            "m | 1G",
+            "m \"move\" 01 | 01",
+            "m \"move | 01",
+            "m \"\\q\" | 01",
+            "m \"\\x1\" | 01",
+            "m \"\\\" | 01",
         ] {
             let text = format!("b 01\n{line}\n");
             assert_eq!(fixed(&text), Err(format!("line 2: {line}")));
@@ -176,12 +262,16 @@ mod tests {
             Case::Book(vec![9], 2),
             Case::Fields(vec![258], 65_536),
             Case::CirclesBook(vec![7, 8]),
+            Case::Moves(vec![4; 300], vec![5, 6]),
         ];
         let asked = [
-            &[3, 0, 0][..],
+            &[4, 0, 0][..],
             &[b'b', 2, 0, 0, 1, 0, 0, 9],
             &[b'w', 0, 0, 1, 2, 0, 0, 2, 1],
             &[b'c', 0, 0, 0, 2, 0, 0, 7, 8],
+            &[b'm', 44, 1, 0, 46, 1, 0],
+            &[4; 300],
+            &[5, 6],
         ];
         assert_eq!(question(&cases), asked.concat());
     }
@@ -206,6 +296,29 @@ mod tests {
         let answer = "book accepted 1\nt 0 idle\nt 1 idle\nt 2 active\n\
                       opening 13\nactive 1 lowest 2\n";
         assert_eq!(permitted.answer(), answer.as_bytes());
+    }
+
+    #[test]
+    fn answers_of_a_plan() {
+        let answer = |plan: &[u8], book: &[u8]| {
+            String::from_utf8(Case::Moves(plan.to_vec(), book.to_vec()).answer()).unwrap()
+        };
+        // A saga of one step, begun and aborted.
+        let put_back = [1, 1, 1, 0, 0, 0, 1, 0, 3, 0];
+        let lines = "list 1A put back\nmove A: nothing\n";
+        assert_eq!(answer(b"move A\nlist 1A\n", &put_back), lines);
+        assert_eq!(answer(b"list 1A\n", &put_back), "plan refused 28 0 0\n");
+        assert_eq!(answer(b"move A\n\nmove\n", &put_back), "line 3\n");
+        assert_eq!(answer(b"", &put_back[..9]), "book refused 2 1 9\n");
+        assert_eq!(answer(b"", &put_back), "");
+    }
+
+    #[test]
+    fn about_a_sixth_of_the_cases_are_plans() {
+        let cases = made(1, 400);
+        let plans = cases.iter().filter(|case| case.letter() == b'm').count();
+        assert_eq!(plans, 100);
+        assert!((5..=7).contains(&(cases.len() / plans)));
     }
 
     #[test]

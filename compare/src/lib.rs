@@ -11,6 +11,7 @@ mod damage;
 mod draft;
 mod model;
 mod noise;
+mod plans;
 mod random;
 mod replay;
 mod singles;

@@ -28,7 +28,7 @@ fn lines(reading: &Reading) -> String {
         .collect()
 }
 
-fn book_line(reading: &Reading) -> String {
+pub(crate) fn book_line(reading: &Reading) -> String {
     let Reading {
         number,
         events,
@@ -79,7 +79,7 @@ fn phase_word(phase: Phase) -> &'static str {
     }
 }
 
-fn step_word(code: u8) -> &'static str {
+pub(crate) fn step_word(code: u8) -> &'static str {
     match code {
         BEGIN => "begin",
         ABORT => "abort",

@@ -1,7 +1,7 @@
 //! The commands of the second program. Books come from standard input, and
 //! nothing is written to standard output before the whole answer stands.
 
-use second::{Reading, Refused, MOST_BYTES};
+use second::{Plan, Reading, Refused, MOST_BYTES};
 use std::ffi::{OsStr, OsString};
 use std::fmt::Write as _;
 use std::fs::{self, File};
@@ -13,6 +13,7 @@ use std::time::{Duration, Instant};
 
 const USAGE: &str = "usage: second listing | opening | unpack [ROOM] | write [ROOM] | pairs
        second circles-listing | circles-opening
+       second moves PLAN
        second listings FOLDER
        second measure FILE TIMES
 All but the last two read standard input.";
@@ -54,27 +55,28 @@ fn answer(arguments: &[OsString]) -> Result<Vec<u8>, String> {
         (Some("unpack"), room @ ([] | [_])) => unpack(room_size(room)?),
         (Some("write"), room @ ([] | [_])) => write(room_size(room)?),
         (Some("pairs"), []) => Ok(pairs(&second::read(&book_from_input()?))),
+        (Some("moves"), [plan]) => moves(Path::new(plan)),
         (Some("listings"), [folder]) => listings(Path::new(folder)),
         (Some("measure"), [file, times]) => measure(Path::new(file), number(times)?),
         _ => Err(format!("no such command\n{USAGE}")),
     }
 }
 
-/// Books longer than allowed are cut one byte above the limit: they are
-/// refused for their length whatever follows.
-fn read_book(source: impl Read) -> io::Result<Vec<u8>> {
-    let mut book = Vec::new();
-    source.take(MOST_BYTES as u64 + 1).read_to_end(&mut book)?;
-    Ok(book)
+/// Books, and plans, longer than allowed are cut one byte above the limit: they
+/// are refused for their length whatever follows.
+fn read_bytes(source: impl Read) -> io::Result<Vec<u8>> {
+    let mut bytes = Vec::new();
+    source.take(MOST_BYTES as u64 + 1).read_to_end(&mut bytes)?;
+    Ok(bytes)
 }
 
 fn book_from_input() -> Result<Vec<u8>, String> {
-    read_book(io::stdin().lock()).map_err(|error| format!("standard input: {error}"))
+    read_bytes(io::stdin().lock()).map_err(|error| format!("standard input: {error}"))
 }
 
-fn book_from_file(file: &Path) -> Result<Vec<u8>, String> {
+fn bytes_of_file(file: &Path) -> Result<Vec<u8>, String> {
     File::open(file)
-        .and_then(read_book)
+        .and_then(read_bytes)
         .map_err(|error| format!("{}: {error}", file.display()))
 }
 
@@ -162,10 +164,16 @@ fn pairs(reading: &Reading) -> Vec<u8> {
     text.into_bytes()
 }
 
+fn moves(file: &Path) -> Result<Vec<u8>, String> {
+    let plan = Plan::from_text(&bytes_of_file(file)?)
+        .map_err(|not_read| format!("{}: {not_read}", file.display()))?;
+    Ok(second::move_lines(&plan, &book_from_input()?))
+}
+
 fn listings(folder: &Path) -> Result<Vec<u8>, String> {
     let mut output = Vec::new();
     for file in files_by_name(folder).map_err(|error| format!("{}: {error}", folder.display()))? {
-        let book = book_from_file(&file)?;
+        let book = bytes_of_file(&file)?;
         output.extend_from_slice(b"== ");
         output.extend_from_slice(file.file_name().unwrap_or_default().as_encoded_bytes());
         output.push(b'\n');
@@ -197,7 +205,7 @@ fn measure(file: &Path, times: usize) -> Result<Vec<u8>, String> {
     if times == 0 {
         return Err("TIMES must be at least 1".to_string());
     }
-    let book = book_from_file(file)?;
+    let book = bytes_of_file(file)?;
     let events = second::read(&book).events;
     let taken = time_of_reading(&book, times);
     let per_event = taken.as_nanos() as f64 / times as f64 / events.max(1) as f64;

@@ -48,3 +48,12 @@ pub const NEVER_MOVES: u8 = 21;
 /// The operation or the delegation would put an active undo on a ring of ties,
 /// and then the undo could not commit.
 pub const UNDO_ON_A_RING: u8 = 22;
+
+/// A move of the plan has more than 16 steps.
+pub const TOO_MANY_STEPS: u8 = 25;
+/// The plan has more than 30 class lists.
+pub const TOO_MANY_LISTS: u8 = 26;
+/// A name in the plan has more than 24 bytes.
+pub const NAME_TOO_LONG: u8 = 27;
+/// A class list belongs to a move that isn't in the plan.
+pub const NO_SUCH_MOVE: u8 = 28;

@@ -59,7 +59,7 @@ fn bit(transaction: usize) -> u64 {
 }
 
 #[inline]
-fn refuse_unless(holds: bool, number: u8) -> Result<(), u8> {
+pub(crate) fn refuse_unless(holds: bool, number: u8) -> Result<(), u8> {
     if holds {
         Ok(())
     } else {

@@ -167,6 +167,36 @@ fn write() {
 }
 
 #[test]
+fn moves() {
+    let folder = folder("moves");
+    let plan = |name: &str, text: &[u8]| {
+        let file = folder.join(name);
+        fs::write(&file, text).unwrap();
+        file.to_str().unwrap().to_string()
+    };
+    let week = plan("week", b"move Week 46\nstep names\nstep labels\nlist 1A\n");
+    answers(
+        &["moves", &week],
+        &LISTED,
+        "list 1A still open\nmove Week 46: begin the undo of names\n",
+    );
+    answers(&["moves", &week], &LISTED[..23], "book refused 2 6 23\n");
+    let no_move = plan("no-move", b"list 1A\n");
+    answers(&["moves", &no_move], &LISTED, "plan refused 28 0 0\n");
+    let empty = plan("empty", b"");
+    answers(&["moves", &empty], &LISTED, "");
+
+    let bad = plan("bad", b"move Week 46\n\nsteps names\n");
+    complains(&["moves", &bad], &LISTED);
+    let message = run(&["moves", &bad], &LISTED).stderr;
+    assert!(String::from_utf8_lossy(&message).contains("line 3 "));
+    let too_long = plan("too-long", &[b'#'; 65_537]);
+    complains(&["moves", &too_long], &LISTED);
+    complains(&["moves", "no/such/plan"], &LISTED);
+    complains(&["moves"], &LISTED);
+}
+
+#[test]
 fn listings_of_a_folder() {
     let folder = folder("listings");
     fs::write(folder.join("b"), [1, 0, 0, 0, 0]).unwrap();

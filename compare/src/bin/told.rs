@@ -110,6 +110,10 @@ fn take_case(rest: &mut &[u8]) -> Option<Case> {
         b'b' => Some(Case::Book(bytes.to_vec(), room)),
         b'w' => Some(Case::Fields(fields().collect(), room)),
         b'c' => Some(Case::CirclesBook(bytes.to_vec())),
+        b'm' => {
+            let (plan, book) = bytes.split_at_checked(room)?;
+            Some(Case::Moves(plan.to_vec(), book.to_vec()))
+        }
         _ => None,
     }
 }
@@ -137,7 +141,8 @@ mod tests {
 
     #[test]
     fn a_question_is_read_back() {
-        let cases = fixed("b 01 80 /3\nw 7 300 65535\nc 01\nb x70000 01\n").unwrap();
+        let cases =
+            fixed("b 01 80 /3\nw 7 300 65535\nc 01\nm \"list a\" | 01\nb x70000 01\n").unwrap();
         let read: Vec<Case> = asked(&question(&cases)).unwrap();
         let show = |cases: &dyn std::fmt::Debug| format!("{cases:?}");
         assert_eq!(show(&read), show(&cases));

@@ -3,7 +3,8 @@
 // A case is a letter, the size of the lent room, a length, and that many bytes; sizes and lengths have three bytes, low byte first. 'b' is a
 // book: its listing, the length of its accepted opening, the report on its state, and its fields unpacked into the room. 'c' is a book
 // whose begin dependencies may go round in a circle: the same without its fields. 'w' is a list of fields, two bytes each, low byte first: what
-// writing them into the room answers. It stops at the end of the input or where that is torn. A case that was not read gets no answer, and what
+// writing them into the room answers. 'm' is a plan as staff write it, as long as the number says that stands for a room, and a book behind it: what
+// the program `recordmove` prints of them, or the number of the line that is not understood. It stops at the end of the input or where that is torn. A case that was not read gets no answer, and what
 // was not read, written or understood is said on standard error.
 use book::Outcome;
 use book::Reading;
@@ -13,6 +14,7 @@ use libc::STDIN_FILENO;
 use libc::STDOUT_FILENO;
 use listing::Placed;
 use listing::Text;
+use telling::Told;
 use terms::Book;
 use terms::Refusal;
 
@@ -192,12 +194,27 @@ fn write_case(bytes: &[u8], size: usize) {
     answer_write(&fields[..n], &mut room[..size]);
 }
 
+// A plan, and a book behind it.
+fn move_case(bytes: &[u8], size: usize) {
+    if bytes.len() < size {
+        return;
+    }
+    match telling::tell(&bytes[..size], &bytes[size..]) {
+        Told::Whole => {}
+        Told::NotWritten => {}
+        Told::NotUnderstood(line) => say_count(b"line", line),
+        Told::TooLong => say(b"too long\n"),
+    }
+}
+
 // One case by its letter.
 fn answer(letter: u8, bytes: &[u8], size: usize) {
     if letter == b'w' {
         write_case(bytes, size);
     } else if letter == b'c' {
         circles_case(bytes);
+    } else if letter == b'm' {
+        move_case(bytes, size);
     } else {
         book_case(bytes, size);
     }

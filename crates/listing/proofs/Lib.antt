@@ -2,3 +2,4 @@
 pub mod TextLaws
 pub mod DigitLaws
 pub mod ListingLaws
+pub mod TextPromisesHold

@@ -4,6 +4,7 @@ mod books;
 mod closing;
 mod decided;
 mod line;
+mod moves;
 mod never_moving;
 mod refusals;
 mod single;

@@ -1,0 +1,5 @@
+-- The definitions that the contracts of `moves` cite, and what is promised of them.
+pub mod Words
+pub mod Moves
+pub mod Lines
+pub mod Promises

@@ -1,0 +1,2 @@
+-- The definitions that the contracts of `telling` cite.
+pub mod Telling
