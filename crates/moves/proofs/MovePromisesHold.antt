@@ -83,6 +83,14 @@ module _ (tables : Tables) (s : State) (i : ℕ) where
           aborted-begun (ownOf tables s i 0) _ off g
       listed false h g = absurd (true-false (sym g))
 
+  settled-listed : settled tables s i ≡ true → isListed tables i ≡ true
+  unfolding settled
+  settled-listed e = listed (isListed tables i) refl e
+    where
+      listed : (b : Bool) → isListed tables i ≡ b → cond b (settledBy (ownOf tables s i 0) (stepsOf tables i) (ownOf tables s i)) false ≡ true → b ≡ true
+      listed true h g = refl
+      listed false h g = absurd (true-false (sym g))
+
   -- what the test of S says
   committed-on : sagaCommitted tables s i ≡ true → HasCommitted tables s i
   committed-on e = listed (isListed tables i) refl e
@@ -98,7 +106,7 @@ module _ (tables : Tables) (s : State) (i : ℕ) where
   not-committed c h = true-false (sym (on-committed h) ∙ c)
 
   backed : settled tables s i ≡ true → sagaCommitted tables s i ≡ false → BackedOut tables s i
-  backed e c = record { begun = settled-begun e c; settled = e; not-committed = not-committed c }
+  backed e c = record { listed = settled-listed e; begun = settled-begun e c; settled = e; not-committed = not-committed c }
 
   -- by the two tests
   words-by : (x y : Bool) → sagaCommitted tables s i ≡ x → settled tables s i ≡ y → wordFor tables s i ≡ cond x Moved (cond y PutBack StillOpen) → Words tables s i
@@ -216,14 +224,14 @@ module _ (tables : Tables) (es : List Event) (i : ℕ) (demand : Demand tables i
 
   -- the event that it names is the closing step's
   named-event : (m : ℕ) → outstanding tables now i ≡ m → (e : Event) → eventFor tables i (todoFor tables now i) ≡ some e
-      → (judged tables now e .verdict ≡ Accepted) × (outstanding tables (judged tables now e .state) i < outstanding tables now i)
+      → (judged tables now e .verdict ≡ Accepted) × (outstanding tables (judged tables now e .state) i + 1 ≡ outstanding tables now i)
   named-event zero z e h = some-none (sym (ap eventOf (demand .none-at-zero es z)) ∙ sym (closes tables now i) ∙ h)
   named-event (suc m) z e h =
       let c = step-now (omega arith) in
       let both : some (c .event) ≡ some e = sym (c .named) ∙ sym (closes tables now i) ∙ h in
       let same : c .event ≡ e = cc in
-      subst (λ (x : Event). (judged tables now x .verdict ≡ Accepted) × (outstanding tables (judged tables now x .state) i < outstanding tables now i)) same
-      (c .accepted, omega (arith, c .lowers))
+      subst (λ (x : Event). (judged tables now x .verdict ≡ Accepted) × (outstanding tables (judged tables now x .state) i + 1 ≡ outstanding tables now i)) same
+      (c .accepted, c .lowers)
 
   next-reached : NextThing tables now i
   next-reached =

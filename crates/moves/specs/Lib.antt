@@ -2,4 +2,5 @@
 pub mod Words
 pub mod Moves
 pub mod Lines
+pub mod Worked
 pub mod Promises

@@ -35,8 +35,9 @@ pub record HasCommitted (tables : Tables) (s : State) (i : ℕ) : Type 0 where
   pub listed : isListed tables i ≡ true
   pub committed : ownOf tables s i 0 ≡ Committed
 
--- the saga of index i was begun, is settled and did not commit
+-- the saga of index i is in the book, was begun, is settled and did not commit
 pub record BackedOut (tables : Tables) (s : State) (i : ℕ) : Type 0 where
+  pub listed : isListed tables i ≡ true
   pub begun : ownOf tables s i 0 ≢ Idle
   pub settled : settled tables s i ≡ true
   pub not-committed : HasCommitted tables s i → ⊥
@@ -55,7 +56,7 @@ pub record NextThing (tables : Tables) (s : State) (i : ℕ) : Type 0 where
   pub nothing : (todoFor tables s i ≡ Nothing) ↔ (outstanding tables s i ≡ 0)
   -- done as the next event it is accepted, and the move owes one less
   pub accepted : (e : Event) → eventFor tables i (todoFor tables s i) ≡ some e → judged tables s e .verdict ≡ Accepted
-  pub lowers : (e : Event) → eventFor tables i (todoFor tables s i) ≡ some e → outstanding tables (judged tables s e .state) i < outstanding tables s i
+  pub lowers : (e : Event) → eventFor tables i (todoFor tables s i) ≡ some e → outstanding tables (judged tables s e .state) i + 1 ≡ outstanding tables s i
 
 -- what is said of a plan and the reading of a book
 pub record Said (names ends steps lists : List ℕ) (r : Reading) : Type 0 where

@@ -11,5 +11,6 @@ pub mod ReadLaws
 pub mod BackLaws
 pub mod AnswersHold
 pub mod ReadingHolds
+pub mod SaysLaws
 pub mod LinesHold
 pub mod WorkedHolds

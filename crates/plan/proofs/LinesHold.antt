@@ -14,6 +14,7 @@ use Rattle.plan.specs.declared.Word.{Word}
 use Rattle.plan.specs.declared.Word.the-variants.{Passed, Move, Step, ClassList, Unclear}
 use Rattle.plan.specs.Lines.{withFirst, linesOf, move, step, list, entryOf, isBlank, pastBlanks, blankThen, upToBlanks, trimmed, moveWord, stepWord, listWord, begins, byWord, wordOf, nameOf, entryBy}
 use Rattle.plan.specs.Promises.{Blank, NoFeed, Named, Lines}
+use Rattle.plan.proofs.SaysLaws.{list-says, move-says, passed-when, step-says}
 use Rattle.plan.proofs.TextLaws.{up-blank}
 use Rattle.plan.proofs.EntryLaws.{past-le, up-le}
 
@@ -203,6 +204,10 @@ lines-hold =
       fed = line-fed;
       last = line-last;
       written = words-written;
+      move-says = move-says;
+      step-says = step-says;
+      list-says = list-says;
+      passed-when = passed-when;
       around = λ a line z h k. ap (λ (s : List ℕ). entryBy (wordOf s) (nameOf s)) (trim-around a line z (blanks-are a h) (blanks-are z k));
       named =
           λ line.

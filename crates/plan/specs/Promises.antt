@@ -7,7 +7,7 @@ use Prim.Native.Nat.{ℕ, suc, _+_, _≤_, _<_}
 use lib.ListN.{length, getD}
 use Rattle.plan.specs.declared.Counts.{Counts}
 use Rattle.plan.specs.declared.PlanRead.the-variants.{Read, NotUnderstood, NoRoom, TooLong}
-use Rattle.plan.specs.Lines.{linesOf, trimmed, moveWord, stepWord, listWord, Entry, passed, move, step, list, unclear, entryOf, entriesOf}
+use Rattle.plan.specs.Lines.{linesOf, trimmed, moveWord, stepWord, listWord, Entry, passed, move, step, list, unclear, entryOf, entriesOf, pastBlanks}
 use Rattle.plan.specs.Names.{nameAt, moveName, stepName, listName}
 use Rattle.plan.specs.Reading.{isUnclear, firstUnclear, joined, endsFrom, moveAbove, planNames, planEnds, planSteps, planLists, countsOf, readAnswer}
 use Rattle.plan.specs.Verdict.{planNumber, planVerdict}
@@ -58,6 +58,14 @@ Named unclear = Unit {0}
 abbrev pub NoFeed : List ℕ → Type 0
 NoFeed line = (i : ℕ) → i < length line → getD line i 0 ≡ 10 → ⊥
 
+-- the line is the word, a blank or a tab, and x behind what blanks and tabs there are
+pub record Says (word line x : List ℕ) : Type 0 where
+  pub apart : ℕ
+  pub rest : List ℕ
+  pub line-is : line ≡ word ++ (apart ∷ rest)
+  pub apart-is : (apart ≡ 32) ⊎ (apart ≡ 9)
+  pub name-is : x ≡ pastBlanks false (apart ∷ rest)
+
 pub record Lines : Type 0 where
   -- a line feed ends a line, and the end of the text ends one that lacks it
   pub fed : (line rest : List ℕ) → NoFeed line → linesOf (line ++ (10 ∷ rest)) ≡ line ∷ linesOf rest
@@ -65,6 +73,12 @@ pub record Lines : Type 0 where
   -- a name without blanks around it, behind its word and a blank
   pub written : (x : List ℕ) → trimmed x ≡ x → 0 < length x
       → (entryOf (moveWord ++ (32 ∷ x)) ≡ move x) × (entryOf (stepWord ++ (32 ∷ x)) ≡ step x) × (entryOf (listWord ++ (32 ∷ x)) ≡ list x)
+  -- nothing else names a move, a step or a list
+  pub move-says : (line x : List ℕ) → entryOf line ≡ move x → Says moveWord (trimmed line) x
+  pub step-says : (line x : List ℕ) → entryOf line ≡ step x → Says stepWord (trimmed line) x
+  pub list-says : (line x : List ℕ) → entryOf line ≡ list x → Says listWord (trimmed line) x
+  -- and nothing is passed over but what is empty or starts with '#' (35)
+  pub passed-when : (line : List ℕ) → Exactly (entryOf line ≡ passed) ((trimmed line ≡ []) ⊎ ((s : List ℕ) × (trimmed line ≡ 35 ∷ s)))
   -- what stands around a line counts for nothing
   pub around : (before line after : List ℕ) → Blank before → Blank after → entryOf (before ++ (line ++ after)) ≡ entryOf line
   -- a name has at least one byte

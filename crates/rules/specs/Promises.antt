@@ -1,26 +1,57 @@
--- Whom the saga rules leave alone: what else they forbid would be forbidden by no sentence of the documents.
-use Prim.Native.Nat.{ℕ, _+_}
+-- The saga rules and the kinds of dependency once more, in the phases' own names, both ways: what else they forbade would be forbidden by no sentence of the documents.
+use Prim.Native.Nat.{ℕ, _+_, _-_, _≤_, _<_}
 use mathlib.Core.Path.{_≡_}
-use mathlib.Core.Bool.{true, false}
-use mathlib.Core.List.{List}
+use mathlib.Core.Bool.{Bool, true, false}
+use mathlib.Core.Logic.{_↔_, _≢_, _⊎_}
+use mathlib.Core.List.{List, [], _∷_, map}
+use Rattle.tables.specs.Dependencies.{kindOf}
 use Rattle.tables.specs.declared.Sort.the-variants.{Plain, Saga, Step, Undo}
-use Rattle.rules.specs.Rules.{abortBarred, beginBarred, commitBarred}
-use Rattle.rules.specs.States.{isActive, isCommitted, own}
+use Rattle.rules.specs.Rules.{abortBarred, beginBarred, beginBars, commitBarred, commitBars}
+use Rattle.rules.specs.States.{own}
+use Rattle.rules.specs.declared.Phase.{Phase}
+use Rattle.rules.specs.declared.Phase.the-variants.{Aborted, Active, Committed, Idle}
 use Rattle.rules.specs.declared.Transaction.{Transaction}
+
+-- ---- sagas
+
+-- "C(i) begins only when S is aborted, T(i) is committed, T(i+1) isn't active, and, if T(i+1) is committed, C(i+1) is committed." Tn has no undo.
+pub record UndoTurn (P : ℕ → Phase) (n i : ℕ) : Type 0 where
+  pub saga : P 0 ≡ Aborted
+  pub step : P i ≡ Committed
+  pub next-rests : P (i + 1) ≢ Active
+  pub next-undone : P (i + 1) ≡ Committed → (i + 1 < n) × (P (n + (i + 1)) ≡ Committed)
 
 pub record LeavesAlone (ts : List Transaction) : Type 0 where
   -- a plain transaction begins, commits and aborts by no saga rule
   pub plain-begins : beginBarred ts Plain ≡ false
   pub plain-commits : commitBarred ts Plain ≡ false
   pub plain-aborts : abortBarred ts Plain ≡ false
-  -- S begins by itself; its first step while S is active, and every later one once the one before it is committed
+  -- S begins by itself; "T1 begins only while S is active. T(i), i above 1, begins only while S is active and T(i-1) is committed."
   pub saga-begins : (f n : ℕ) → beginBarred ts (Saga f n) ≡ false
-  pub first-begins : (f n : ℕ) → isActive (own ts f 0) ≡ true → beginBarred ts (Step f n 1) ≡ false
-  pub next-begins : (f n i : ℕ) → isActive (own ts f 0) ≡ true → isCommitted (own ts f i) ≡ true → beginBarred ts (Step f n (1 + i)) ≡ false
-  -- a step commits while S is active, S once its last step is committed, and an undo always
-  pub step-commits : (f n i : ℕ) → isActive (own ts f 0) ≡ true → commitBarred ts (Step f n i) ≡ false
-  pub saga-commits : (f n : ℕ) → isCommitted (own ts f n) ≡ true → commitBarred ts (Saga f n) ≡ false
+  pub step-begins : (f n i : ℕ) → (beginBarred ts (Step f n i) ≡ false) ↔ ((own ts f 0 ≡ Active) × ((i ≤ 1) ⊎ (own ts f (i - 1) ≡ Committed)))
+  pub undo-begins : (f n i : ℕ) → (beginBarred ts (Undo f n i) ≡ false) ↔ UndoTurn (own ts f) n i
+  -- "A step commits only while S is active." "S commits only when Tn is committed." An undo commits always.
+  pub step-commits : (f n i : ℕ) → (commitBarred ts (Step f n i) ≡ false) ↔ (own ts f 0 ≡ Active)
+  pub saga-commits : (f n : ℕ) → (commitBarred ts (Saga f n) ≡ false) ↔ (own ts f n ≡ Committed)
   pub undo-commits : (f n i : ℕ) → commitBarred ts (Undo f n i) ≡ false
+  -- "S aborts only when Tn isn't committed." A step aborts always.
+  pub saga-aborts : (f n : ℕ) → (abortBarred ts (Saga f n) ≡ false) ↔ (own ts f n ≢ Committed)
+  pub step-aborts : (f n i : ℕ) → abortBarred ts (Step f n i) ≡ false
+
+-- ---- kinds 1 to 7, as a table: for a base that is idle, active, committed, aborted
+
+abbrev pub byPhase : (Phase → Bool) → List Bool
+byPhase bars = bars Idle ∷ bars Active ∷ bars Committed ∷ bars Aborted ∷ []
+
+pub record KindTable : Type 0 where
+  -- whether d may not commit: kind 1 until b has ended, kind 2 until b is committed, kind 3 once b is aborted
+  pub commits : map (λ (k : ℕ). byPhase (commitBars (kindOf k))) (1 ∷ 2 ∷ 3 ∷ 4 ∷ 5 ∷ 6 ∷ 7 ∷ [])
+      ≡ (true ∷ true ∷ false ∷ false ∷ []) ∷ (true ∷ true ∷ false ∷ true ∷ []) ∷ (false ∷ false ∷ false ∷ true ∷ [])
+      ∷ (false ∷ false ∷ false ∷ false ∷ []) ∷ (false ∷ false ∷ false ∷ false ∷ []) ∷ (false ∷ false ∷ false ∷ false ∷ []) ∷ (false ∷ false ∷ false ∷ false ∷ []) ∷ []
+  -- whether d may not begin: kind 4 while b is idle, kind 5 until b has ended, kind 6 until b is committed, kind 7 until b is aborted
+  pub begins : map (λ (k : ℕ). byPhase (beginBars (kindOf k))) (1 ∷ 2 ∷ 3 ∷ 4 ∷ 5 ∷ 6 ∷ 7 ∷ [])
+      ≡ (false ∷ false ∷ false ∷ false ∷ []) ∷ (false ∷ false ∷ false ∷ false ∷ []) ∷ (false ∷ false ∷ false ∷ false ∷ [])
+      ∷ (true ∷ false ∷ false ∷ false ∷ []) ∷ (true ∷ true ∷ false ∷ false ∷ []) ∷ (true ∷ true ∷ false ∷ true ∷ []) ∷ (true ∷ true ∷ true ∷ false ∷ []) ∷ []
 
 -- in any state
 abbrev pub RulesLeaveAlone : Type 0

@@ -13,3 +13,5 @@ pub mod PassLaws
 pub mod CircleLaws
 pub mod NeverMovesRefusedHolds
 pub mod WrittenLaws
+pub mod NumberedHolds
+pub mod EntriesInWordsHold

@@ -3,9 +3,9 @@ use Prim.Native.Nat.{ℕ, zero, suc, _+_, _*_, _-_, _≤_, _<_, min}
 use native.Mathlib.Numerals.{add-one}
 use native.Mathlib.Omega.{arith}
 use mathlib.Core.Path.{_≡_, refl, sym, ap, ap₂, subst, subst⁻¹, _∙_}
-use mathlib.Core.Bool.{true, _&&_, _||_}
+use mathlib.Core.Bool.{true}
 use mathlib.Core.List.{List, [], _∷_, _++_}
-use lib.Dec.{eqb, ltb}
+use lib.Dec.{eqb}
 use lib.ListN.{length, length-set, getD, set, take, drop, List·getD-eq-default}
 use lib.Seq.{drop-at, drop-cons, drop-length, getD-set-same, getD-take, length-take-le, take-at}
 use borrow.Author.Tests.{eq-eqb, le-ltb}
@@ -24,7 +24,7 @@ use Rattle.number.proofs.Spelling.{number-next}
 use Rattle.tables.specs.Accepted.{GoesRound, SameTables, Well}
 use Rattle.tables.specs.Circles.{beginLink, waitsBy}
 use Rattle.tables.specs.Counts.{dependencyCount}
-use Rattle.tables.specs.Dependencies.{allowed, dependencyAt, entryHolds, kindNumber, kindOf, mayBase, mayDepend, noDependency, risesFrom, risesTo}
+use Rattle.tables.specs.Dependencies.{allowed, dependencyAt, entryHolds, kindNumber, kindOf, noDependency, risesFrom, risesTo}
 use Rattle.tables.specs.Reading.{dependenciesFrom, emptyTables, entryAt, restFrom, sagasFrom, tablesBy, unlessCircle, withCounts, withEntry, withSaga}
 use Rattle.tables.specs.Sorts.{numberOfAll, ownedBy, sagasOf, sortFrom, sortOf}
 use Rattle.tables.specs.Written.{declaredOf, entriesFields, entryFields, tableFields}
@@ -60,7 +60,7 @@ module _ (t : Tables) (well : Well t) where
       absurd (fine .apart (ap (λ (y : Dependency). y .dependent) none ∙ sym (ap (λ (y : Dependency). y .base) none))))
       (λ h. h)
 
-  steps-many : length (sagasOf t) ≡ t .sagas
+  pub steps-many : length (sagasOf t) ≡ t .sagas
   steps-many = length-take-le (t .sagas) (t .steps) steps-there
 
   pub entries-many : length (declaredOf t) ≡ t .declared

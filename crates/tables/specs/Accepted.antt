@@ -1,8 +1,8 @@
 -- What accepted tables are: demand 3 rests on it; and which tables are refused because they can never move.
-use Prim.Native.Nat.{ℕ, zero, suc, _+_, _≤_, _<_}
+use Prim.Native.Nat.{ℕ, zero, suc, _+_, _*_, _≤_, _<_}
 use mathlib.Core.Path.{_≡_}
 use mathlib.Core.Bool.{true}
-use mathlib.Core.Logic.{_↔_}
+use mathlib.Core.Logic.{_↔_, _≢_, _⊎_}
 use mathlib.Core.List.{List}
 use lib.ListN.{getD}
 use Rattle.terms.specs.Limits.{mostSagas, mostSteps, mostTransactions, mostObjects, mostDependencies}
@@ -10,15 +10,22 @@ use Rattle.terms.specs.declared.Refusal.{Refusal}
 use Rattle.terms.specs.declared.Refusal.the-variants.{NeverMoves}
 use Rattle.sets.specs.Reach.{Leads}
 use Rattle.number.specs.Number.{andThen, numberAt}
-use Rattle.tables.specs.Sorts.{numberOfAll, sagasOf}
+use Rattle.tables.specs.Sorts.{firstOf, numberOfAll, sagasOf, sortOf}
 use Rattle.tables.specs.Dependencies.{kindNumber, dependencyAt, allowed, risesFrom}
 use Rattle.tables.specs.Circles.{beginLink}
 use Rattle.tables.specs.Reading.{tablesBy}
 use Rattle.tables.specs.Written.{declaredOf}
 use Rattle.tables.specs.declared.Circles.{Circles}
 use Rattle.tables.specs.declared.Circles.the-variants.{Forbidden, Permitted}
+use Rattle.tables.specs.declared.Dependency.{Dependency}
+use Rattle.tables.specs.declared.Sort.{Sort}
+use Rattle.tables.specs.declared.Sort.the-variants.{Plain, Saga, Step, Undo}
 use Rattle.tables.specs.declared.Tables.{Tables}
 use Rattle.tables.specs.declared.TablesAnswer.the-variants.{Read, Refused}
+
+-- the sort of an S
+abbrev pub IsSaga : Sort → Type 0
+IsSaga x = (f : ℕ) × (n : ℕ) × (x ≡ Saga f n)
 
 pub record Well (t : Tables) : Type 0 where
   -- refusal 5: at most 16 sagas, each of 1 to 16 steps; N at most 64; the other counts
@@ -46,6 +53,43 @@ pub record SameTables (t u : Tables) : Type 0 where
   pub objects : t .objects ≡ u .objects
   pub declared : t .declared ≡ u .declared
   pub entries : declaredOf t ≡ declaredOf u
+
+-- ---- an entry, in words
+
+-- known and different transactions, a kind from 1 to 7, and the sorts: "b is plain or an S"; "Kinds 1 to 3 take a plain d only, kinds 4 to 7 a plain d or an S."
+pub record EntryAllowed (t : Tables) (n d b kind : ℕ) : Type 0 where
+  pub dependent : d < n
+  pub base : b < n
+  pub differ : d ≢ b
+  pub kind-low : 1 ≤ kind
+  pub kind-high : kind ≤ 7
+  pub base-sort : (sortOf t b ≡ Plain) ⊎ IsSaga (sortOf t b)
+  pub dependent-sort : (sortOf t d ≡ Plain) ⊎ ((4 ≤ kind) × IsSaga (sortOf t d))
+
+-- "strictly rising by dependent, then base, then kind"
+abbrev pub Rises : Dependency → ℕ → ℕ → ℕ → Type 0
+Rises x d b kind = (x .dependent < d) ⊎ ((x .dependent ≡ d) × ((x .base < b) ⊎ ((x .base ≡ b) × (kindNumber (x .kind) < kind))))
+
+-- what refusal 6 goes by is that, both ways
+pub record EntriesInWords : Type 0 where
+  pub allowed-is : (t : Tables) (n d b kind : ℕ) → (allowed t n d b kind ≡ true) ↔ EntryAllowed t n d b kind
+  pub rises-is : (x : Dependency) (d b kind : ℕ) → (risesFrom x d b kind ≡ true) ↔ Rises x d b kind
+
+-- ---- the numbers of transactions
+
+-- "A saga whose first number is f owns 2n of them: f is the saga S, f+1 to f+n are steps T1 to Tn, f+n+1 to f+2n-1 are undos C1 to C(n-1). Tn has no undo. Plain
+-- ones come last." The first saga starts at 0, and each next one behind the one before it.
+pub record Numbered (t : Tables) : Type 0 where
+  pub start : firstOf t 0 ≡ 0
+  pub behind : (i : ℕ) → i < t .sagas → firstOf t (i + 1) ≡ firstOf t i + 2 * getD (t .steps) i 0
+  pub saga : (i : ℕ) → i < t .sagas → sortOf t (firstOf t i) ≡ Saga (firstOf t i) (getD (t .steps) i 0)
+  pub step : (i j : ℕ) → i < t .sagas → 1 ≤ j → j ≤ getD (t .steps) i 0 → sortOf t (firstOf t i + j) ≡ Step (firstOf t i) (getD (t .steps) i 0) j
+  pub undo : (i j : ℕ) → i < t .sagas → 1 ≤ j → j < getD (t .steps) i 0
+      → sortOf t (firstOf t i + (getD (t .steps) i 0 + j)) ≡ Undo (firstOf t i) (getD (t .steps) i 0) j
+  pub plain : (k : ℕ) → k < t .plain → sortOf t (firstOf t (t .sagas) + k) ≡ Plain
+
+abbrev pub WellNumbered : Type 0
+WellNumbered = (t : Tables) → Well t → Numbered t
 
 -- ---- tables that can never move
 

@@ -7,3 +7,4 @@ pub mod RingLaws
 pub mod OrderLaws
 pub mod RingsExactHolds
 pub mod DirtyStaysHolds
+pub mod MeantHolds

@@ -2,15 +2,18 @@
 use mathlib.Core.Path.{_≡_}
 use mathlib.Core.Bool.{Bool, true, false, not, _&&_, _||_}
 use lib.Dec.{ltb}
-use mathlib.Core.Logic.{_↔_}
+use mathlib.Core.Logic.{_↔_, _⊎_}
 use Prim.Native.Nat.{ℕ}
 use Rattle.laws.specs.Index.{anyBelow}
 use Rattle.terms.specs.Events.{isWrite}
+use Rattle.terms.specs.declared.Mark.{Mark}
+use Rattle.terms.specs.declared.Mark.the-variants.{Write}
 use Rattle.sets.specs.Reach.{Leads}
+use Rattle.ties.specs.declared.Fate.the-variants.{Active, Committed}
 use Rattle.ties.specs.declared.Operation.{Operation}
 use Rattle.ties.specs.declared.Ops.{Ops}
 use Rattle.ties.specs.Ties.{before, onRing, conflict, readBy, cleanFor, dirtyAt}
-use Rattle.ties.specs.Operations.{isActive, opAt}
+use Rattle.ties.specs.Operations.{isActive, mostOperations, opAt}
 
 pub record Rings (ops : Ops) : Type 0 where
   -- t is on a ring exactly when following ties leads from it back to it
@@ -20,6 +23,16 @@ pub record Rings (ops : Ops) : Type 0 where
 
 abbrev pub RingsExact : Type 0
 RingsExact = (ops : Ops) → Rings ops
+
+-- ---- what the words of the rules mean, in the operations' own marks and fates
+
+pub record Meant : Type 0 where
+  -- "at most 256 in a book"
+  pub most : mostOperations ≡ 256
+  -- two operations conflict exactly when they are on the same object and one of them is a write
+  pub conflicts : (p : Operation) (o : ℕ) (m : Mark) → (conflict p o m ≡ true) ↔ ((p .object ≡ o) × ((p .mark ≡ Write) ⊎ (m ≡ Write)))
+  -- a write bars no commit of t exactly when it "is committed, or is active and t is responsible for it"
+  pub clean : (t : ℕ) (p : Operation) → (cleanFor t p ≡ true) ↔ ((p .fate ≡ Committed) ⊎ ((p .fate ≡ Active) × (p .responsible ≡ t)))
 
 -- ---- the dirty-read rule by ties to operations that were active, as it stood before committed changes counted for the order
 
