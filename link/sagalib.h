@@ -85,6 +85,10 @@ void saga_line(const uint8_t *book, size_t book_size, uint64_t k, uint8_t *room,
    accepted as the next event and leaves one less. An index that is no saga's has nothing to do. */
 void saga_next(const uint8_t *book, size_t book_size, uint64_t saga, struct saga_step *step);
 
+/* How much is left after the accepted events of a book: the sum of what saga_next calls outstanding over all sagas. Taking all closing steps, saga
+   after saga, settles every begun saga in as many events. */
+uint64_t saga_left(const uint8_t *book, size_t book_size);
+
 /* Puts the fields of a book that is accepted whole at the front of the room; the answer's length is how many there are, never more than the
    book has bytes. Refusals are those of saga_read, then 19; each leaves the room as it was. What lies behind the fields stays as it was. */
 void saga_unpack(const uint8_t *book, size_t book_size, uint16_t *room, size_t room_size, struct saga_answer *answer);

@@ -57,6 +57,7 @@ mod archive {
             answer: *mut [u64; 4],
         );
         pub fn saga_next(book: *const u8, book_size: usize, saga: u64, step: *mut [u64; 3]);
+        pub fn saga_left(book: *const u8, book_size: usize) -> u64;
         pub fn saga_unpack(
             book: *const u8,
             book_size: usize,
@@ -137,6 +138,12 @@ pub fn next(book: &[u8], saga: u64) -> Step {
         _ => None,
     };
     Step { event, outstanding }
+}
+
+/// How much is left after the accepted events of a book: the sum of what is outstanding over all sagas. Taking all closing steps, saga after saga,
+/// settles every begun saga in as many events.
+pub fn left(book: &[u8]) -> u64 {
+    unsafe { archive::saga_left(book.as_ptr(), book.len()) }
 }
 
 /// Puts the fields of a book that is accepted whole at the front of the room. There are never more fields than the book has bytes.

@@ -199,6 +199,7 @@ static void empty_and_torn(void) {
   ANSWER(read_book(listed, 4), SAGA_TORN, 0, 4, 0);
   CHECK(saga_opening(listed, 4) == 0);
   CHECK(saga_lines(listed, 4) == 1);
+  CHECK(saga_left(listed, 4) == 0);
 
   uint16_t fields[32];
   struct saga_answer answer = no_answer;
@@ -228,6 +229,7 @@ static void closed_step_by_step(void) {
     ANSWER(read_book(book, n), 0, events, 0, n);
     step = next_step(book, n, 0);
     CHECK(step.outstanding == left);
+    CHECK(saga_left(book, n) == left);
   }
   STEP(step, SAGA_NONE, 0, 0);
 }

@@ -6,7 +6,8 @@
 mod sagalib;
 
 use sagalib::{
-    line, lines, next, opening, read, unpack, write, Answer, Event, Step, BOOK_BYTES, LINE_BYTES,
+    left, line, lines, next, opening, read, unpack, write, Answer, Event, Step, BOOK_BYTES,
+    LINE_BYTES,
 };
 
 const BYTE: u8 = 0xA5;
@@ -195,15 +196,17 @@ fn empty_and_torn() {
     assert_eq!(read(&LISTED[..4]), answer(2, 0, 4, 0));
     assert_eq!(opening(&LISTED[..4]), []);
     assert_eq!(lines(&LISTED[..4]), 1);
+    assert_eq!(left(&LISTED[..4]), 0);
 }
 
 /// Taking the closing step again and again settles the saga of a torn book: each is accepted, and leaves one less.
 fn closed_step_by_step() {
     let mut book = opening(&LISTED[..23]).to_vec();
     let mut events = 6;
-    for left in [3, 2, 1] {
+    for owed in [3, 2, 1] {
         let next = next(&book, 0);
-        assert_eq!(next.outstanding, left);
+        assert_eq!(next.outstanding, owed);
+        assert_eq!(left(&book), owed);
         match next.event {
             Some(Event::Begin(t)) => book.extend_from_slice(&[1, t as u8]),
             Some(Event::Commit(t)) => book.extend_from_slice(&[2, t as u8]),
@@ -214,6 +217,7 @@ fn closed_step_by_step() {
         assert_eq!(read(&book), answer(0, events, 0, book.len() as u64));
     }
     assert_eq!(next(&book, 0), NOTHING);
+    assert_eq!(left(&book), 0);
 }
 
 /// A field of two bytes before the place: bytes are counted in reading, fields in writing.

@@ -40,7 +40,7 @@ const PUT: &str = "a text takes every line";
 fn book_answer(book: &[u8], room: usize) -> Vec<u8> {
     let mut text = second::listing(book);
     put_opening(&mut text, second::opening(book));
-    put_report(&mut text, &second::report(&second::read(book)));
+    put_state(&mut text, &second::read(book));
     let mut fields = vec![0; room];
     match second::unpack(book, &mut fields) {
         Ok(count) => {
@@ -57,10 +57,7 @@ fn book_answer(book: &[u8], room: usize) -> Vec<u8> {
 fn circles_book_answer(book: &[u8]) -> Vec<u8> {
     let mut text = second::listing_circles_permitted(book);
     put_opening(&mut text, second::opening_circles_permitted(book));
-    put_report(
-        &mut text,
-        &second::report(&second::read_circles_permitted(book)),
-    );
+    put_state(&mut text, &second::read_circles_permitted(book));
     text.into_bytes()
 }
 
@@ -68,7 +65,10 @@ fn put_opening(text: &mut String, opening: &[u8]) {
     writeln!(text, "opening {}", opening.len()).expect(PUT);
 }
 
-fn put_report(text: &mut String, report: &second::Report) {
+/// How much is left, and the report.
+fn put_state(text: &mut String, reading: &second::Reading) {
+    *text += &second::left_line(reading);
+    let report = second::report(reading);
     writeln!(text, "active {} lowest {}", report.active, report.lowest).expect(PUT);
     for (earlier, row) in report.pairs.iter().enumerate() {
         for later in (0..64).filter(|later| row >> later & 1 == 1) {

@@ -279,7 +279,8 @@ mod tests {
     #[test]
     fn answers_of_a_book_and_of_a_writing() {
         let book = Case::Book(vec![1, 0, 0, 0, 0], 5);
-        let answer = "book accepted 0\nopening 5\nactive 0 lowest 64\nunpacked 5\n1\n0\n0\n0\n0\n";
+        let answer =
+            "book accepted 0\nopening 5\nleft 0\nactive 0 lowest 64\nunpacked 5\n1\n0\n0\n0\n0\n";
         assert_eq!(book.answer(), answer.as_bytes());
         let writing = Case::Fields(vec![1, 0, 0, 0, 0], 4);
         assert_eq!(writing.answer(), b"refused 19 0 0\n");
@@ -290,12 +291,23 @@ mod tests {
         // Plain 0 and 1 wait for each other, 2 begins.
         let bytes = vec![1, 0, 3, 0, 2, 0, 1, 4, 1, 0, 4, 1, 2];
         let book = Case::Book(bytes.clone(), 20);
-        let answer = "book refused 21 0 4\nopening 0\nactive 0 lowest 64\nrefused 21 0 4\n";
+        let answer = "book refused 21 0 4\nopening 0\nleft 0\nactive 0 lowest 64\nrefused 21 0 4\n";
         assert_eq!(book.answer(), answer.as_bytes());
         let permitted = Case::CirclesBook(bytes);
         let answer = "book accepted 1\nt 0 idle\nt 1 idle\nt 2 active\n\
-                      opening 13\nactive 1 lowest 2\n";
+                      opening 13\nleft 0\nactive 1 lowest 2\n";
         assert_eq!(permitted.answer(), answer.as_bytes());
+    }
+
+    #[test]
+    fn what_is_left_comes_after_the_opening() {
+        // A saga of two steps, its first done, its second at work; then 13.
+        let bytes = vec![1, 1, 2, 0, 0, 0, 1, 0, 1, 1, 2, 1, 1, 2, 2, 0];
+        let answer = "book refused 13 4 14\nt 0 active\nt 1 committed\nt 2 active\nt 3 idle\n\
+                      saga 0 4 abort 0\nopening 14\nleft 4\nactive 2 lowest 0\n";
+        let refused = format!("{answer}refused 13 4 14\n");
+        assert_eq!(Case::Book(bytes.clone(), 9).answer(), refused.as_bytes());
+        assert_eq!(Case::CirclesBook(bytes).answer(), answer.as_bytes());
     }
 
     #[test]
@@ -305,12 +317,13 @@ mod tests {
         };
         // A saga of one step, begun and aborted.
         let put_back = [1, 1, 1, 0, 0, 0, 1, 0, 3, 0];
-        let lines = "list 1A put back\nmove A: nothing\n";
+        let lines = "left 0\nlist 1A put back\nmove A: nothing\n";
         assert_eq!(answer(b"move A\nlist 1A\n", &put_back), lines);
         assert_eq!(answer(b"list 1A\n", &put_back), "plan refused 28 0 0\n");
         assert_eq!(answer(b"move A\n\nmove\n", &put_back), "line 3\n");
         assert_eq!(answer(b"", &put_back[..9]), "book refused 2 1 9\n");
-        assert_eq!(answer(b"", &put_back), "");
+        assert_eq!(answer(b"", &put_back), "left 0\n");
+        assert_eq!(answer(b"", &put_back[..8]), "left 1\n");
     }
 
     #[test]

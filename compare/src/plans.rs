@@ -343,8 +343,9 @@ mod tests {
         let parts = PARTS.into_iter().filter(|part| line.contains(part));
         let whole = WHOLE.into_iter().filter(|whole| line == *whole);
         let ending = ENDINGS.into_iter().filter(|end| line.ends_with(end));
-        let unclear = line.strip_prefix("line ").map(|_| "line ");
-        let mut all = whole.chain(parts).chain(ending).chain(unclear);
+        let fronts = ["line ", "left "].into_iter();
+        let front = fronts.filter(|front| line.starts_with(front));
+        let mut all = whole.chain(parts).chain(ending).chain(front);
         all.next().unwrap_or("none of these")
     }
 
@@ -359,7 +360,7 @@ mod tests {
             }
         }
         let of_words = sorts.values().filter(|count| **count >= 4).count();
-        assert_eq!(of_words, 18, "{sorts:?}");
+        assert_eq!(of_words, 19, "{sorts:?}");
         assert_eq!(sorts.get("none of these"), None);
     }
 

@@ -412,6 +412,12 @@ mod tests {
         }
     }
 
+    /// What is left over all sagas, by its definition.
+    fn sum_over_sagas(reading: &second::Reading) -> usize {
+        let sagas = 0..reading.tables.sagas().len();
+        sagas.map(|saga| second::outstanding(reading, saga)).sum()
+    }
+
     /// Walks through a story event by event, offers the model and the second
     /// program others on the way, and compares what they say.
     fn walk(random: &mut Random, story: &Story) {
@@ -420,9 +426,12 @@ mod tests {
         for event in &story.draft.events {
             for code in [1, 2, 2, 3, 4, 5, 6, 6, 7] {
                 let other = wild_event(random, &model, code);
-                let mut state = reading.state.clone();
-                let answer = state.offer(&reading.tables, as_second_reads_it(other));
+                let mut offered = reading.clone();
+                let answer = offered
+                    .state
+                    .offer(&reading.tables, as_second_reads_it(other));
                 assert_eq!(answer.err().unwrap_or(0), model.verdict(other), "{other:?}");
+                assert_eq!(offered.state.left(), sum_over_sagas(&offered), "{other:?}");
             }
             let answer = reading
                 .state
@@ -436,6 +445,7 @@ mod tests {
                 model.take(*event);
             }
             assert_eq!(second::report(&reading).pairs, model.pairs());
+            assert_eq!(reading.state.left(), sum_over_sagas(&reading), "{event:?}");
         }
     }
 

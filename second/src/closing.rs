@@ -29,7 +29,8 @@ pub fn closing(reading: &Reading, saga: usize) -> Option<(u8, usize)> {
     }
 }
 
-fn owed(state: &State, saga: Saga) -> usize {
+/// The outstanding number of a saga.
+pub(crate) fn owed(state: &State, saga: Saga) -> usize {
     match state.phase(saga.whole()) {
         Phase::Idle | Phase::Committed => 0,
         Phase::Active if state.is_committed(saga.last_step()) => 1,

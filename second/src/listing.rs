@@ -42,6 +42,11 @@ pub(crate) fn book_line(reading: &Reading) -> String {
     }
 }
 
+/// The line of the board above the pass: how much is left in all.
+pub fn left_line(reading: &Reading) -> String {
+    format!("left {}\n", reading.state.left())
+}
+
 fn transaction_line(reading: &Reading, number: usize) -> String {
     format!("t {number} {}\n", phase_word(reading.state.phase(number)))
 }

@@ -11,7 +11,7 @@ use std::path::{Path, PathBuf};
 use std::process::ExitCode;
 use std::time::{Duration, Instant};
 
-const USAGE: &str = "usage: second listing | opening | unpack [ROOM] | write [ROOM] | pairs
+const USAGE: &str = "usage: second listing | opening | unpack [ROOM] | write [ROOM] | pairs | left
        second circles-listing | circles-opening
        second moves PLAN
        second listings FOLDER
@@ -55,6 +55,10 @@ fn answer(arguments: &[OsString]) -> Result<Vec<u8>, String> {
         (Some("unpack"), room @ ([] | [_])) => unpack(room_size(room)?),
         (Some("write"), room @ ([] | [_])) => write(room_size(room)?),
         (Some("pairs"), []) => Ok(pairs(&second::read(&book_from_input()?))),
+        (Some("left"), []) => {
+            let reading = second::read(&book_from_input()?);
+            Ok(second::left_line(&reading).into_bytes())
+        }
         (Some("moves"), [plan]) => moves(Path::new(plan)),
         (Some("listings"), [folder]) => listings(Path::new(folder)),
         (Some("measure"), [file, times]) => measure(Path::new(file), number(times)?),

@@ -8,13 +8,14 @@ pub use plan::Plan;
 pub use text::NotRead;
 
 use crate::closing::{closing, outstanding};
-use crate::listing::{book_line, step_word};
+use crate::listing::{book_line, left_line, step_word};
 use crate::refusal;
 use crate::state::Phase;
 use crate::{read, Reading};
 
-/// A line for each class list and then one for each move, where move i is saga
-/// i of the book. If the plan or the book is refused, one line that says so.
+/// How much is left in all, then a line for each class list and then one for
+/// each move, where move i is saga i of the book. If the plan or the book is
+/// refused, one line that says so.
 pub fn move_lines(plan: &Plan, book: &[u8]) -> Vec<u8> {
     if let Err(number) = plan.judge() {
         return format!("plan refused {number} 0 0\n").into_bytes();
@@ -23,9 +24,10 @@ pub fn move_lines(plan: &Plan, book: &[u8]) -> Vec<u8> {
     if reading.number != refusal::ACCEPTED {
         return book_line(&reading).into_bytes();
     }
+    let left = std::iter::once(left_line(&reading).into_bytes());
     let lists = (0..plan.lists.len()).map(|list| list_line(plan, &reading, list));
     let moves = (0..plan.steps.len()).map(|index| move_line(plan, &reading, index));
-    lists.chain(moves).flatten().collect()
+    left.chain(lists).chain(moves).flatten().collect()
 }
 
 fn list_line(plan: &Plan, reading: &Reading, list: usize) -> Vec<u8> {

@@ -2,6 +2,7 @@
 
 mod order;
 
+use crate::closing::owed;
 use crate::event::Event;
 use crate::operations::{OperationSet, MOST_OPERATIONS};
 use crate::refusal;
@@ -34,6 +35,9 @@ pub struct State {
     /// The operations it answers for ended with it, but for those that ended
     /// alone before, so this tells which later operations found them active.
     ended_at: [u16; MOST_TRANSACTIONS],
+    /// The sum of outstanding over all sagas, kept so that the board above the
+    /// pass can be redrawn after each event.
+    left: usize,
 
     /// How many operations are accepted.
     accepted: usize,
@@ -74,6 +78,7 @@ impl State {
         committed: 0,
         aborted: 0,
         ended_at: [0; MOST_TRANSACTIONS],
+        left: 0,
         accepted: 0,
         object_of: [0; MOST_OPERATIONS],
         responsible: [0; MOST_OPERATIONS],
@@ -90,6 +95,11 @@ impl State {
     /// The active transactions, as bits.
     pub fn active(&self) -> u64 {
         self.active
+    }
+
+    /// How much is left to do: the sum of outstanding over all sagas.
+    pub fn left(&self) -> usize {
+        self.left
     }
 
     /// How many operations are accepted.
@@ -168,9 +178,9 @@ impl State {
     #[inline(always)]
     pub fn offer(&mut self, tables: &Tables, event: Event) -> Result<(), u8> {
         match event {
-            Event::Begin { transaction } => self.begin(tables, transaction),
-            Event::Commit { transaction } => self.commit(tables, transaction),
-            Event::Abort { transaction } => self.abort(tables, transaction),
+            Event::Begin { transaction } => self.keep_left(tables, transaction, State::begin),
+            Event::Commit { transaction } => self.keep_left(tables, transaction, State::commit),
+            Event::Abort { transaction } => self.keep_left(tables, transaction, State::abort),
             Event::Operation {
                 transaction,
                 object,
@@ -190,6 +200,25 @@ impl State {
                 operation,
             } => self.abort_operation(tables, transaction, operation),
         }
+    }
+
+    /// Judges the begin or the end of a transaction and keeps the sum of what is
+    /// left. Only these change what a saga owes, and none but the one that the
+    /// transaction belongs to.
+    #[inline(always)]
+    fn keep_left(
+        &mut self,
+        tables: &Tables,
+        transaction: u16,
+        judge: impl FnOnce(&mut State, &Tables, u16) -> Result<(), u8>,
+    ) -> Result<(), u8> {
+        let Some(saga) = tables.saga_owning(transaction) else {
+            return judge(self, tables, transaction);
+        };
+        let owed_before = owed(self, saga);
+        judge(self, tables, transaction)?;
+        self.left = self.left - owed_before + owed(self, saga);
+        Ok(())
     }
 
     fn begin(&mut self, tables: &Tables, transaction: u16) -> Result<(), u8> {

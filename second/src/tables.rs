@@ -194,6 +194,20 @@ impl Tables {
         &self.sagas[..self.saga_count]
     }
 
+    /// The saga that a transaction belongs to; none for a plain one, or one that
+    /// is not in the tables.
+    #[inline]
+    pub(crate) fn saga_owning(&self, transaction: u16) -> Option<Saga> {
+        let transaction = usize::from(transaction);
+        let whole = match self.sorts.get(transaction)? {
+            Sort::Plain => return None,
+            Sort::Saga { .. } => transaction,
+            Sort::Step { saga } | Sort::Undo { saga, .. } => usize::from(*saga),
+        };
+        let mut sagas = self.sagas().iter().copied();
+        sagas.find(|saga| saga.whole() == whole)
+    }
+
     /// The declared dependencies of one transaction on others.
     #[inline]
     pub fn dependencies_of(&self, dependent: usize) -> &[Dependency] {

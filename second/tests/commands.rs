@@ -167,6 +167,14 @@ fn write() {
 }
 
 #[test]
+fn left() {
+    answers(&["left"], &LISTED, "left 2\n");
+    answers(&["left"], &LISTED[..23], "left 3\n");
+    answers(&["left"], &[7], "left 0\n");
+    complains(&["left", "more"], &LISTED);
+}
+
+#[test]
 fn moves() {
     let folder = folder("moves");
     let plan = |name: &str, text: &[u8]| {
@@ -178,13 +186,13 @@ fn moves() {
     answers(
         &["moves", &week],
         &LISTED,
-        "list 1A still open\nmove Week 46: begin the undo of names\n",
+        "left 2\nlist 1A still open\nmove Week 46: begin the undo of names\n",
     );
     answers(&["moves", &week], &LISTED[..23], "book refused 2 6 23\n");
     let no_move = plan("no-move", b"list 1A\n");
     answers(&["moves", &no_move], &LISTED, "plan refused 28 0 0\n");
     let empty = plan("empty", b"");
-    answers(&["moves", &empty], &LISTED, "");
+    answers(&["moves", &empty], &LISTED, "left 2\n");
 
     let bad = plan("bad", b"move Week 46\n\nsteps names\n");
     complains(&["moves", &bad], &LISTED);

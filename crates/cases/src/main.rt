@@ -1,7 +1,7 @@
 // Answers the cases on its standard input one after another, so that two programs can be held against each other.
 //
 // A case is a letter, the size of the lent room, a length, and that many bytes; sizes and lengths have three bytes, low byte first. 'b' is a
-// book: its listing, the length of its accepted opening, the report on its state, and its fields unpacked into the room. 'c' is a book
+// book: its listing, the length of its accepted opening, how much is left, the report on its state, and its fields unpacked into the room. 'c' is a book
 // whose begin dependencies may go round in a circle: the same without its fields. 'w' is a list of fields, two bytes each, low byte first: what
 // writing them into the room answers. 'm' is a plan as staff write it, as long as the number says that stands for a room, and a book behind it: what
 // the program `recordmove` prints of them, or the number of the line that is not understood. It stops at the end of the input or where that is torn. A case that was not read gets no answer, and what
@@ -118,11 +118,20 @@ fn unpack(bytes: &[u8], room: &mut [u16]) {
     }
 }
 
+// How much is left in the state that a book leads to.
+fn say_left(reading: Reading) {
+    let tables = reading.tables;
+    let state = reading.state;
+    let left = left::left_of(tables, state);
+    say_count(b"left", left);
+}
+
 fn answer_book(bytes: &[u8], room: &mut [u16]) {
     let reading = book::read(bytes);
     say_listing(reading);
     let opening = book::opening(bytes);
     say_count(b"opening", opening.len());
+    say_left(reading);
     say_report(reading);
     unpack(bytes, room);
 }
@@ -132,6 +141,7 @@ fn circles_case(bytes: &[u8]) {
     say_listing(reading);
     let opening = book::opening_permitting_circles(bytes);
     say_count(b"opening", opening.len());
+    say_left(reading);
     say_report(reading);
 }
 

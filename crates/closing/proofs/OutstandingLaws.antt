@@ -36,7 +36,7 @@ settledOf n P = settledBy (P 0) n P
 
 -- ---- the bound
 
-owedBy-le : (p : Phase) → owedBy p ≤ 2
+pub owedBy-le : (p : Phase) → owedBy p ≤ 2
 owedBy-le Idle = omega arith
 owedBy-le Active = omega arith
 owedBy-le Committed = omega arith

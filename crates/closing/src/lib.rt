@@ -44,7 +44,7 @@ fn active_step(transactions: [Transaction; Book::TRANSACTIONS], first: u16, n: u
 }
 
 // What a committed step owes, by its undo.
-fn owed_by(undo: Phase) -> usize
+pub fn owed_by(undo: Phase) -> usize
     ensures { λ r. ⌜ r ≡ owedBy undo ⌝ }
 {
     match undo {

@@ -7,6 +7,7 @@ use mathlib.Core.List.{List, [], _∷_}
 use lib.Dec.{leb, ltb}
 use lib.ListN.{getD, length, length-append}
 use borrow.Author.Tests.{ltb-false, ltb-true}
+use Rattle.left.specs.Left.{leftIn}
 use Rattle.plan.specs.Names.{listName, moveName, nameAt, stepName}
 use Rattle.plan.specs.Verdict.{planNumber, planVerdict, refusalNumber}
 use Rattle.plan.specs.declared.PlanRefusal.{PlanRefusal}
@@ -15,7 +16,7 @@ use Rattle.plan.proofs.JudgingHolds.{judging-holds}
 use Rattle.book.specs.declared.Reading.{Reading}
 use Rattle.listing.specs.Words.{decimal}
 use Rattle.listing.proofs.TextPromisesHold.{text-promises}
-use Rattle.moves.specs.Lines.{listLine, moveLine, partLetters, planLine, shown, stepLetters, todoLetters, wordLetters}
+use Rattle.moves.specs.Lines.{acceptedLine, leftLine, listLine, moveLine, partLetters, planLine, shown, stepLetters, todoLetters, toldLine, wordLetters}
 use Rattle.moves.specs.Moves.{todoFor, wordFor}
 use Rattle.moves.specs.Promises.{Said}
 use Rattle.moves.specs.declared.ListWord.{ListWord}
@@ -24,12 +25,15 @@ use Rattle.moves.specs.declared.Part.{Part}
 use Rattle.moves.specs.declared.Part.the-variants.{Itself, OfStep, OfUndo}
 use Rattle.moves.specs.declared.Todo.{Todo}
 use Rattle.moves.specs.declared.Todo.the-variants.{Aborts, Begins, Commits, Nothing}
-use Rattle.moves.proofs.SaidLaws.{count-refused, count-told, count-unfit, said-refused, said-told, said-unfit, told-list, told-move}
+use Rattle.moves.proofs.SaidLaws.{accepted-left, accepted-told, count-refused, count-told, count-unfit, said-refused, said-told, said-unfit, told-list, told-move}
 
 -- ---- every line fits a text
 
 plan-whole : (x : PlanRefusal) → shown (planLine x) ≡ planLine x
 plan-whole x = text-promises .fits [] (planLine x) (simp length-append (omega (arith, text-promises .digits (refusalNumber x))))
+
+left-whole : (n : ℕ) → shown (leftLine n) ≡ leftLine n
+left-whole n = text-promises .fits [] (leftLine n) (simp length-append (omega (arith, text-promises .digits n)))
 
 module _ (names ends steps : List ℕ) (short : (k : ℕ) → length (nameAt names ends k) ≤ 24) where
   word-le : (w : ListWord) → length (wordLetters w) ≤ 11
@@ -63,6 +67,12 @@ module _ (names ends steps : List ℕ) (short : (k : ℕ) → length (nameAt nam
   move-whole i t =
       text-promises .fits [] (moveLine names ends steps i t) (simp length-append (omega (arith, short (moveName steps i), todo-le i t)))
 
+-- a line behind that of how much is left
+below : (names ends steps lists : List ℕ) (r : Reading) (k : ℕ) → acceptedLine names ends steps lists r (1 + k) ≡ toldLine names ends steps lists r k
+below names ends steps lists r k =
+    let back : 1 + k - 1 ≡ k = omega arith in
+    sym (accepted-told names ends steps lists r (1 + k) (λ z. omega arith)) ∙ ap (toldLine names ends steps lists r) back
+
 -- ---- of a plan that fits no name is long
 
 module _ (names ends steps lists : List ℕ) (fits : planVerdict names ends steps lists ≡ Fits) where
@@ -82,13 +92,16 @@ said-holds names ends steps lists r =
       book-next = λ f x e.
           (sym (count-refused names ends steps lists r (sym f) x (sym e)), λ k. sym (said-refused names ends steps lists r k (sym f) x (sym e)));
       all-told = λ f e. sym (count-told names ends steps lists r (sym f) (sym e));
+      left-told = λ f e.
+          sym (said-told names ends steps lists r 0 (sym f) (sym e)) ∙ sym (accepted-left names ends steps lists r 0 refl (leftIn (r .tables) (r .state)) refl)
+          ∙ left-whole (leftIn (r .tables) (r .state));
       lists-told = λ f e j h.
-          sym (said-told names ends steps lists r j (sym f) (sym e)) ∙ sym (told-list names ends steps lists r j h)
+          sym (said-told names ends steps lists r (1 + j) (sym f) (sym e)) ∙ below names ends steps lists r j ∙ sym (told-list names ends steps lists r j h)
           ∙ list-whole names ends steps (short names ends steps lists f) j (wordFor (r .tables) (r .state) (getD lists j 0));
       moves-told = λ f e i.
           let k = length lists + i in
           let back : k - length lists ≡ i = omega arith in
-          sym (said-told names ends steps lists r k (sym f) (sym e)) ∙ sym (told-move names ends steps lists r k (omega arith))
+          sym (said-told names ends steps lists r (1 + k) (sym f) (sym e)) ∙ below names ends steps lists r k ∙ sym (told-move names ends steps lists r k (omega arith))
           ∙ ap (λ (n : ℕ). shown (moveLine names ends steps n (todoFor (r .tables) (r .state) n))) back
           ∙ move-whole names ends steps (short names ends steps lists f) i (todoFor (r .tables) (r .state) i);
     }

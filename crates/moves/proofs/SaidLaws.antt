@@ -18,6 +18,7 @@ use Rattle.rules.specs.declared.Phase.{Phase}
 use Rattle.rules.specs.declared.State.{State}
 use Rattle.closing.specs.Closing.{closing, settled}
 use Rattle.closing.specs.declared.NextStep.{NextStep}
+use Rattle.left.specs.Left.{leftIn}
 use Rattle.plan.specs.Names.{nameAt, stepName}
 use Rattle.plan.specs.Verdict.{planVerdict}
 use Rattle.plan.specs.declared.PlanRefusal.{PlanRefusal}
@@ -28,7 +29,7 @@ use Rattle.listing.specs.Lines.{lineOf}
 use Rattle.listing.specs.Texts.{withAll}
 use Rattle.listing.specs.Words.{decimal}
 use Rattle.listing.proofs.TextPromisesHold.{text-promises}
-use Rattle.moves.specs.Lines.{byBook, byPlan, countByBook, countByPlan, listLine, moveLine, planLine, saidLine, saidLines, shown, stepLetters, toldLine}
+use Rattle.moves.specs.Lines.{acceptedLine, byBook, byPlan, countByBook, countByPlan, leftLine, listLine, moveLine, planLine, saidLine, saidLines, shown, stepLetters, toldLine}
 use Rattle.moves.specs.Moves.{partBy, partOf, sagaCommitted, todoBy, todoFor, wordFor}
 use Rattle.moves.specs.Words.{stepNumber}
 use Rattle.moves.specs.declared.ListWord.the-variants.{Moved, PutBack, StillOpen}
@@ -112,6 +113,12 @@ module _ (names ends steps lists : List ℕ) (r : Reading) (k : ℕ) where
       → shown (moveLine names ends steps (k - length lists) (todoFor (r .tables) (r .state) (k - length lists))) ≡ toldLine names ends steps lists r k
   told-move h = rw (le-ltb k (length lists) h)
 
+  pub accepted-left : k ≡ 0 → (n : ℕ) → n ≡ leftIn (r .tables) (r .state) → shown (leftLine n) ≡ acceptedLine names ends steps lists r k
+  accepted-left z n e = rw (eq-eqb k 0 z) (ap (λ (m : ℕ). shown (leftLine m)) e)
+
+  pub accepted-told : (k ≡ 0 → ⊥) → toldLine names ends steps lists r (k - 1) ≡ acceptedLine names ends steps lists r k
+  accepted-told z = rw (ne-eqb k 0 z)
+
   pub said-unfit : (x : PlanRefusal) → Unfit x ≡ planVerdict names ends steps lists → shown (planLine x) ≡ saidLine names ends steps lists r k
   unfolding saidLine
   said-unfit x e = ap (λ (v : PlanVerdict). byPlan names ends steps lists r v k) e
@@ -122,7 +129,7 @@ module _ (names ends steps lists : List ℕ) (r : Reading) (k : ℕ) where
     said-refused x e =
         ap (λ (v : Verdict). byBook names ends steps lists r v k) e ∙ ap (λ (v : PlanVerdict). byPlan names ends steps lists r v k) fits
 
-    pub said-told : Accepted ≡ r .answer → toldLine names ends steps lists r k ≡ saidLine names ends steps lists r k
+    pub said-told : Accepted ≡ r .answer → acceptedLine names ends steps lists r k ≡ saidLine names ends steps lists r k
     unfolding saidLine
     said-told e = ap (λ (v : Verdict). byBook names ends steps lists r v k) e ∙ ap (λ (v : PlanVerdict). byPlan names ends steps lists r v k) fits
 
@@ -136,6 +143,6 @@ module _ (names ends steps lists : List ℕ) (r : Reading) where
     unfolding saidLines
     count-refused x e = ap (λ (v : Verdict). countByBook names ends steps lists r v) e ∙ ap (λ (v : PlanVerdict). countByPlan names ends steps lists r v) fits
 
-    pub count-told : Accepted ≡ r .answer → length lists + length steps ≡ saidLines names ends steps lists r
+    pub count-told : Accepted ≡ r .answer → 1 + (length lists + length steps) ≡ saidLines names ends steps lists r
     unfolding saidLines
     count-told e = ap (λ (v : Verdict). countByBook names ends steps lists r v) e ∙ ap (λ (v : PlanVerdict). countByPlan names ends steps lists r v) fits

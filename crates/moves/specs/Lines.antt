@@ -1,11 +1,13 @@
--- What staff read, byte for byte: a line for each class list, then one for each move; or one line that says why nothing is said of any list.
+-- What staff read, byte for byte: a line that says how much is left, one for each class list, then one for each move; or one line that says why nothing is said of
+-- any list.
 use Prim.Native.Nat.{ℕ, _+_, _-_}
 use mathlib.Core.Bool.{cond}
 use mathlib.Core.List.{List, [], _++_}
-use lib.Dec.{leb, ltb}
+use lib.Dec.{eqb, leb, ltb}
 use lib.ListN.{getD, length}
 use Rattle.terms.specs.declared.Verdict.{Verdict}
 use Rattle.terms.specs.declared.Verdict.the-variants.{Accepted, Refused}
+use Rattle.left.specs.Left.{leftIn}
 use Rattle.plan.specs.Names.{listName, moveName, nameAt, stepName}
 use Rattle.plan.specs.Verdict.{planVerdict, refusalNumber}
 use Rattle.plan.specs.declared.PlanRefusal.{PlanRefusal}
@@ -16,7 +18,7 @@ use Rattle.listing.specs.Lines.{lineOf}
 use Rattle.listing.specs.Texts.{withAll}
 use Rattle.listing.specs.Words.{decimal, lineFeed}
 use Rattle.moves.specs.Moves.{todoFor, wordFor}
-use Rattle.moves.specs.Words.{abortVerb, beginVerb, colon, commitVerb, listHead, moveHead, movedWord, noEvents, nothingWord, planRefused, putBackWord, stepNumber, stillOpenWord, theMove, theStep, theUndo}
+use Rattle.moves.specs.Words.{abortVerb, beginVerb, colon, commitVerb, leftHead, listHead, moveHead, movedWord, noEvents, nothingWord, planRefused, putBackWord, stepNumber, stillOpenWord, theMove, theStep, theUndo}
 use Rattle.moves.specs.declared.ListWord.{ListWord}
 use Rattle.moves.specs.declared.ListWord.the-variants.{Moved, PutBack, StillOpen}
 use Rattle.moves.specs.declared.Part.{Part}
@@ -55,6 +57,10 @@ module _ (names ends steps : List ℕ) where
   abbrev pub listLine : ℕ → ListWord → List ℕ
   listLine j word = listHead ++ (nameAt names ends (listName steps j) ++ (wordLetters word ++ lineFeed))
 
+-- 'left 6'
+abbrev pub leftLine : ℕ → List ℕ
+leftLine n = leftHead ++ (decimal n ++ lineFeed)
+
 -- 'plan refused 25 0 0'
 abbrev pub planLine : PlanRefusal → List ℕ
 planLine r = planRefused ++ (decimal (refusalNumber r) ++ (noEvents ++ lineFeed))
@@ -72,9 +78,13 @@ module _ (names ends steps lists : List ℕ) (r : Reading) where
       (shown (listLine names ends steps k (wordFor (r .tables) (r .state) (getD lists k 0))))
       (shown (moveLine names ends steps (k - length lists) (todoFor (r .tables) (r .state) (k - length lists))))
 
+  -- how much is left of all sagas in the book, then the lists and the moves
+  abbrev pub acceptedLine : ℕ → List ℕ
+  acceptedLine k = cond (eqb k 0) (shown (leftLine (leftIn (r .tables) (r .state)))) (toldLine (k - 1))
+
   -- the plan is judged first, then the book; where either is refused, that is the one line
   abbrev pub byBook : Verdict → ℕ → List ℕ
-  byBook Accepted k = toldLine k
+  byBook Accepted k = acceptedLine k
   byBook (Refused x) k = lineOf r 0
 
   abbrev pub byPlan : PlanVerdict → ℕ → List ℕ
@@ -85,7 +95,7 @@ module _ (names ends steps lists : List ℕ) (r : Reading) where
   saidLine k = byPlan (planVerdict names ends steps lists) k
 
   abbrev pub countByBook : Verdict → ℕ
-  countByBook Accepted = length lists + length steps
+  countByBook Accepted = 1 + (length lists + length steps)
   countByBook (Refused x) = 1
 
   abbrev pub countByPlan : PlanVerdict → ℕ

@@ -19,13 +19,14 @@ use Rattle.rules.specs.declared.Phase.the-variants.{Committed, Idle}
 use Rattle.rules.specs.declared.State.{State}
 use Rattle.judge.specs.Judge.{judged}
 use Rattle.closing.specs.Closing.{closing, eventOf, isListed, outstanding, ownOf, settled}
+use Rattle.left.specs.Left.{leftIn}
 use Rattle.plan.specs.Verdict.{planVerdict}
 use Rattle.plan.specs.declared.PlanRefusal.{PlanRefusal}
 use Rattle.plan.specs.declared.PlanVerdict.the-variants.{Fits, Refused as Unfit}
 use Rattle.book.specs.Reading.{readingOf}
 use Rattle.book.specs.declared.Reading.{Reading}
 use Rattle.listing.specs.Lines.{lineOf}
-use Rattle.moves.specs.Lines.{listLine, moveLine, planLine, saidLine, saidLines}
+use Rattle.moves.specs.Lines.{leftLine, listLine, moveLine, planLine, saidLine, saidLines}
 use Rattle.moves.specs.Moves.{eventFor, todoFor, wordFor}
 use Rattle.moves.specs.declared.ListWord.the-variants.{Moved, PutBack, StillOpen}
 use Rattle.moves.specs.declared.Todo.the-variants.{Nothing}
@@ -65,12 +66,13 @@ pub record Said (names ends steps lists : List ℕ) (r : Reading) : Type 0 where
       → (saidLines names ends steps lists r ≡ 1) × ((k : ℕ) → saidLine names ends steps lists r k ≡ planLine x)
   pub book-next : planVerdict names ends steps lists ≡ Fits → (x : Refusal) → r .answer ≡ Refused x
       → (saidLines names ends steps lists r ≡ 1) × ((k : ℕ) → saidLine names ends steps lists r k ≡ lineOf r 0)
-  -- else a line for each list, and behind them one for each move, and nothing is cut off
-  pub all-told : planVerdict names ends steps lists ≡ Fits → r .answer ≡ Accepted → saidLines names ends steps lists r ≡ length lists + length steps
+  -- else a line that says how much is left, one for each list, and behind them one for each move, and nothing is cut off
+  pub all-told : planVerdict names ends steps lists ≡ Fits → r .answer ≡ Accepted → saidLines names ends steps lists r ≡ 1 + (length lists + length steps)
+  pub left-told : planVerdict names ends steps lists ≡ Fits → r .answer ≡ Accepted → saidLine names ends steps lists r 0 ≡ leftLine (leftIn (r .tables) (r .state))
   pub lists-told : planVerdict names ends steps lists ≡ Fits → r .answer ≡ Accepted → (j : ℕ) → j < length lists
-      → saidLine names ends steps lists r j ≡ listLine names ends steps j (wordFor (r .tables) (r .state) (getD lists j 0))
+      → saidLine names ends steps lists r (1 + j) ≡ listLine names ends steps j (wordFor (r .tables) (r .state) (getD lists j 0))
   pub moves-told : planVerdict names ends steps lists ≡ Fits → r .answer ≡ Accepted → (i : ℕ)
-      → saidLine names ends steps lists r (length lists + i) ≡ moveLine names ends steps i (todoFor (r .tables) (r .state) i)
+      → saidLine names ends steps lists r (1 + (length lists + i)) ≡ moveLine names ends steps i (todoFor (r .tables) (r .state) i)
 
 pub record MovePromises : Type 0 where
   -- of any state

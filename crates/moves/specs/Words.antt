@@ -2,6 +2,10 @@
 use Prim.Native.Nat.{ℕ}
 use mathlib.Core.List.{List, [], _∷_}
 
+-- 'left '
+abbrev pub leftHead : List ℕ
+leftHead = 108 ∷ 101 ∷ 102 ∷ 116 ∷ 32 ∷ []
+
 -- 'list '
 abbrev pub listHead : List ℕ
 listHead = 108 ∷ 105 ∷ 115 ∷ 116 ∷ 32 ∷ []

@@ -1,4 +1,4 @@
-// The record move for staff: what is to be said of each class list, and the one thing to do next for each move.
+// The record move for staff: how much is left in all, what is to be said of each class list, and the one thing to do next for each move.
 //
 // It relies on the contracts of the crates below, and on the proofs of promises that docs/PROMISES.md names; on no other law of theirs.
 // .ci/relies holds it to that.
@@ -15,7 +15,7 @@ ghost use mathlib.Core.List.{[]};
 ghost use lib.ListN.{getD};
 ghost use Rattle.listing.specs.Texts.{textOf, withAll};
 ghost use Rattle.moves.specs.Moves.{sagaCommitted, wordFor, partBy, partOf, todoBy, todoFor};
-ghost use Rattle.moves.specs.Lines.{wordLetters, stepLetters, partLetters, todoLetters, listLine, moveLine, planLine, toldLine, saidLine, saidLines, shown};
+ghost use Rattle.moves.specs.Lines.{wordLetters, stepLetters, partLetters, todoLetters, listLine, moveLine, leftLine, planLine, toldLine, acceptedLine, saidLine, saidLines, shown};
 
 // What is said of a class list.
 pub enum ListWord {
@@ -191,7 +191,14 @@ fn plan_line(refusal: PlanRefusal) -> Text
         .end()
 }
 
-// Line k of a plan that fits and a book that is accepted: the lists, then the moves.
+// The line that says how much is left.
+fn left_line(left: usize) -> Text
+    ensures { λ r. ⌜ textOf r ≡ shown (leftLine left) ⌝ }
+{
+    Text::empty().word(b"left ").number(left).end()
+}
+
+// Line k of the lists and then the moves, where plan and book are accepted.
 fn told_line(
     names: &[u8],
     ends: &[u32],
@@ -213,6 +220,27 @@ fn told_line(
     move_line(names, ends, steps, i, todo)
 }
 
+// Line k of a plan that fits and a book that is accepted: how much is left, then the lists and the moves.
+fn accepted_line(
+    names: &[u8],
+    ends: &[u32],
+    steps: &[u16],
+    lists: &[u16],
+    reading: Reading,
+    k: usize,
+) -> Text
+    ensures { λ r. ⌜ textOf r ≡ acceptedLine (now (names .entry)) (now (ends .entry)) (now (steps .entry)) (now (lists .entry)) reading k ⌝ }
+{
+    if k == 0 {
+        let tables = reading.tables;
+        let state = reading.state;
+        let left = left::left_of(tables, state);
+        return left_line(left);
+    }
+    let behind = k - 1;
+    told_line(names, ends, steps, lists, reading, behind)
+}
+
 // How many lines there are to read.
 pub fn line_count(
     names: &[u8],
@@ -230,10 +258,11 @@ pub fn line_count(
     let Verdict::Accepted = answer else {
         return 1;
     };
-    lists.len() + steps.len()
+    let told = lists.len() + steps.len();
+    1 + told
 }
 
-// Line k, counted from 0: why the plan or else the book is refused, and nothing of any list; or what is said of the lists and moves.
+// Line k, counted from 0: why the plan or else the book is refused, and nothing of any list; or how much is left, and what is said of the lists and moves.
 pub fn line(
     names: &[u8],
     ends: &[u32],
@@ -251,5 +280,5 @@ pub fn line(
     let Verdict::Accepted = answer else {
         return listing::line(reading, 0);
     };
-    told_line(names, ends, steps, lists, reading, k)
+    accepted_line(names, ends, steps, lists, reading, k)
 }

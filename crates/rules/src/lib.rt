@@ -152,7 +152,7 @@ pub fn phase_at(transactions: &[u32; Book::TRANSACTIONS], t: usize) -> Phase
 }
 
 // The phase of one of a saga's own, counted from the saga.
-fn own_at(transactions: &[u32; Book::TRANSACTIONS], first: u16, k: u32) -> Phase
+pub fn own_at(transactions: &[u32; Book::TRANSACTIONS], first: u16, k: u32) -> Phase
     ensures { λ r. ⌜ r ≡ own (transactionsIn (now (transactions .entry))) first k ⌝ }
 {
     let t = first as usize + k as usize;

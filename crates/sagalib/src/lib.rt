@@ -10,6 +10,7 @@ use terms::Refusal;
 ghost use mathlib.Core.Path.{_≡_};
 ghost use lib.ListN.{length};
 ghost use Rattle.number.specs.Number.{ceiling1};
+ghost use Rattle.left.specs.Left.{leftIn};
 ghost use Rattle.book.specs.Reading.{openingOf};
 ghost use Rattle.book.specs.Packing.{unpackedRoom, writtenRoom};
 ghost use Rattle.listing.specs.Lines.{lineCount, placeRoom};
@@ -109,6 +110,17 @@ pub extern "C" fn saga_next(book: &[u8], saga: u64, step: &mut [u64; 3])
     let next = closing::closing(tables, state, i);
     let numbers = step_numbers(owed, next);
     *step = numbers;
+}
+
+// How much is left after the accepted events of a book: what all sagas owe together.
+#[no_mangle]
+pub extern "C" fn saga_left(book: &[u8]) -> u64
+    ensures { λ r. ⌜ r ≡ leftIn (reading (now (book .entry)) .tables) (reading (now (book .entry)) .state) ⌝ }
+{
+    let read = book::read(book);
+    let tables = read.tables;
+    let state = read.state;
+    left::left_of(tables, state) as u64
 }
 
 // Puts the fields of a book that is accepted whole at the front of a lent room.

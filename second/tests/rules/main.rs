@@ -1,8 +1,10 @@
 //! The rules of the saga book, run through the library as a user of it would.
 
 mod books;
+mod chance;
 mod closing;
 mod decided;
+mod left;
 mod line;
 mod moves;
 mod never_moving;

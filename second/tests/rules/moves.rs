@@ -2,15 +2,24 @@
 //! refused about them, and the lines that the kitchen reads.
 
 use crate::books::{Book, LISTED};
-use second::{move_lines, NotRead, Plan};
+use second::{move_lines, outstanding, NotRead, Plan};
 
 /// What the kitchen reads for a plan that is understood.
 fn shown(text: &str, book: &Book) -> String {
     lines_of(&Plan::from_text(text.as_bytes()).unwrap(), book)
 }
 
+/// The line of a refusal; else the lines below the first, which says how much
+/// is left.
 fn lines_of(plan: &Plan, book: &Book) -> String {
-    String::from_utf8(move_lines(plan, &book.0)).unwrap()
+    let lines = String::from_utf8(move_lines(plan, &book.0)).unwrap();
+    if lines.starts_with("plan refused ") || lines.starts_with("book refused ") {
+        return lines;
+    }
+    let reading = book.read();
+    let left: usize = (0..16).map(|saga| outstanding(&reading, saga)).sum();
+    let below = lines.strip_prefix(&format!("left {left}\n"));
+    below.expect(&lines).to_string()
 }
 
 /// No saga at all.
@@ -87,7 +96,7 @@ fn names_are_bytes() {
     let lines = move_lines(&plan, &no_sagas().0);
     assert_eq!(
         lines,
-        b"list \xC3 still open\nmove \xFF\x00: nothing\n".to_vec()
+        b"left 0\nlist \xC3 still open\nmove \xFF\x00: nothing\n".to_vec()
     );
 }
 

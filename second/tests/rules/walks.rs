@@ -2,24 +2,8 @@
 //! transactions is worked out again from the list of operations.
 
 use crate::books::Book;
+use crate::chance::Chance;
 use second::{report, Event, Mark, Phase, Reading, Sort};
-
-/// Chance that can be repeated: splitmix64.
-struct Chance(u64);
-
-impl Chance {
-    fn below(&mut self, limit: usize) -> usize {
-        self.0 = self.0.wrapping_add(0x9E37_79B9_7F4A_7C15);
-        let mut mixed = self.0;
-        mixed = (mixed ^ mixed >> 30).wrapping_mul(0xBF58_476D_1CE4_E5B9);
-        mixed = (mixed ^ mixed >> 27).wrapping_mul(0x94D0_49BB_1331_11EB);
-        ((mixed ^ mixed >> 31) % limit as u64) as usize
-    }
-
-    fn field(&mut self, limit: usize) -> u16 {
-        self.below(limit) as u16
-    }
-}
 
 const OBJECTS: usize = 6;
 
@@ -223,7 +207,7 @@ fn holds_its_promises(reading: &Reading) {
 }
 
 fn walk(seed: u64, events: usize, came: &mut Came) {
-    let chance = &mut Chance(seed);
+    let chance = &mut Chance::new(seed);
     let mut reading = two_sagas_being_undone();
     for _ in 0..events {
         let event = draw(chance, &reading);

@@ -32,11 +32,11 @@ line-requires c κs = search needs
 returns-2 : tie.Need-returns-2
 returns-2 c = let a = c .before .before .before .before .before .before .before .before .before .before .args in c .line .ensures ∙ said-refused (now (a .names)) (now (a .ends)) (now (a .steps)) (now (a .lists)) (a .reading) (a .k) (sym (c .before .before .before .enum-told .given .1) ∙ c .before .before .before .before .before .judged .ensures) _ (sym (c .before .enum-told3 .given .1))
 
-told-line-requires : tie.Need-told-line-requires
-told-line-requires c κs = search needs
+accepted-line-requires : tie.Need-accepted-line-requires
+accepted-line-requires c κs = search needs
 
 returns-3 : tie.Need-returns-3
-returns-3 c = let a = c .before .before .before .before .before .before .before .before .before .before .args in c .told-line .ensures ∙ said-told (now (a .names)) (now (a .ends)) (now (a .steps)) (now (a .lists)) (a .reading) (a .k) (sym (c .before .before .before .enum-told .given .1) ∙ c .before .before .before .before .before .judged .ensures) (sym (c .before .enum-told2 .given .1))
+returns-3 c = let a = c .before .before .before .before .before .before .before .before .before .before .args in c .accepted-line .ensures ∙ said-told (now (a .names)) (now (a .ends)) (now (a .steps)) (now (a .lists)) (a .reading) (a .k) (sym (c .before .before .before .enum-told .given .1) ∙ c .before .before .before .before .before .judged .ensures) (sym (c .before .enum-told2 .given .1))
 
 pub line-spec : {M : Type 1} → statement M
 line-spec =
@@ -51,5 +51,5 @@ line-spec =
     enum-told-3
     line-requires
     returns-2
-    told-line-requires
+    accepted-line-requires
     returns-3)

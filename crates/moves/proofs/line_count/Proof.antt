@@ -26,6 +26,9 @@ enum-told-4 c = search needs
 returns-2 : tie.Need-returns-2
 returns-2 c = let a = c .before .before .before .before .before .before .before .before .before .args in count-refused (now (a .names)) (now (a .ends)) (now (a .steps)) (now (a .lists)) (a .reading) (sym (c .before .before .enum-told .given .1) ∙ c .before .before .before .before .judged .ensures) _ (sym (c .enum-told4 .given .1))
 
+add-told : tie.Need-add-told
+add-told c = search needs
+
 add-result : tie.Need-add-result
 add-result c = search needs
 
@@ -43,5 +46,6 @@ line-count-spec =
     enum-told-3
     enum-told-4
     returns-2
+    add-told
     add-result
     returns-3)
