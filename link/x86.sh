@@ -56,20 +56,26 @@ c_linked_by_machine() {
   cc -Wl,-z,now -o "$@"
 }
 
-# The toolchain's compiler comes without headers; these two say what it knows by itself.
+# The toolchain's compiler comes without headers; these say what it knows by itself, and what the programs of bench/ ask of the C library.
 c_object_by_toolchain() {
   local out=$1 source=$2
   shift 2
   local include=$out.include
   mkdir -p "$include"
   cat >"$include/stddef.h" <<'C'
+#pragma once
 typedef __SIZE_TYPE__ size_t;
 C
   cat >"$include/stdint.h" <<'C'
 typedef __UINT8_TYPE__ uint8_t;
 typedef __UINT16_TYPE__ uint16_t;
+typedef __UINT32_TYPE__ uint32_t;
 typedef __UINT64_TYPE__ uint64_t;
 #define UINT64_MAX __UINT64_MAX__
+C
+  cat >"$include/string.h" <<'C'
+#include <stddef.h>
+void *memset(void *room, int byte, size_t length);
 C
   "$tools/bin/clang" --target=$target -std=c11 -Wall -Wextra -O1 -fPIE -ffreestanding -nostdinc -isystem "$include" "$@" \
     -c "$source" -o "$out"
