@@ -57,13 +57,19 @@ fn delegations() -> Vec<u8> {
     book
 }
 
-/// Every two of 256 writes on one object are tied; the 64 transactions commit in their order.
-fn dense() -> Vec<u8> {
+/// Every two of 256 writes on one object are tied. No commit is asked for.
+fn dense_open() -> Vec<u8> {
     let mut book = plain(64, 1);
     (0..64).for_each(|t| begin(&mut book, t));
     for t in 0..64 {
         (0..4).for_each(|_| write(&mut book, t, 0));
     }
+    book
+}
+
+/// The same writes; the 64 transactions commit in their order.
+fn dense() -> Vec<u8> {
+    let mut book = dense_open();
     (0..64).for_each(|t| commit(&mut book, t));
     book
 }
@@ -272,6 +278,7 @@ pub extern "C" fn main(_count: i32, _words: *const *const u8) -> i32 {
         ("chain-given", chain_given()),
         ("delegations", delegations()),
         ("dense", dense()),
+        ("dense-open", dense_open()),
         ("given-undos", given_undos()),
         ("listed", listed()),
         ("long-ring", long_ring()),

@@ -21,6 +21,9 @@ extern "C" {
 /* A room of so many bytes holds every line of a listing. */
 #define SAGA_LINE_BYTES 96
 
+/* The most transactions that a book has: a list of so many numbers holds every order to replay in. */
+#define SAGA_TRANSACTIONS 64
+
 /* Why something is refused. */
 enum saga_refusal {
   SAGA_ACCEPTED = 0,         /* nothing is refused */
@@ -53,7 +56,7 @@ struct saga_answer {
   uint64_t refusal; /* a saga_refusal: 0 if nothing is refused */
   uint64_t events;  /* how many events of the book are accepted: all of them, or those before the refusal */
   uint64_t place;   /* where the refusal is: in bytes of the book, or for saga_write in fields; 0 if nothing is refused */
-  uint64_t length;  /* how many bytes or fields were accepted or written; 0 after a refusal to write */
+  uint64_t length;  /* how many bytes, fields or transactions were accepted or written; 0 after a refusal to write */
 };
 
 /* What is to be done for a saga; the numbers are those of the events in a book. */
@@ -88,6 +91,12 @@ void saga_next(const uint8_t *book, size_t book_size, uint64_t saga, struct saga
 /* How much is left after the accepted events of a book: the sum of what saga_next calls outstanding over all sagas. Taking all closing steps, saga
    after saga, settles every begun saga in as many events. */
 uint64_t saga_left(const uint8_t *book, size_t book_size);
+
+/* Puts the transactions that hold a committed operation after the accepted events of a book at the front of the list, in an order in which their committed
+   changes can be copied one transaction at a time: where two of them changed the same object, or one read what the other changed, whoever did so first comes
+   first. Among those that could come next the lowest number does. The answer's length is how many there are, 0 if the tables are refused. 19 is the only
+   refusal here, since every book has an order, and it leaves the list as it was. What lies behind the order in the list stays as it was. */
+void saga_replay(const uint8_t *book, size_t book_size, uint16_t *list, size_t list_size, struct saga_answer *answer);
 
 /* Puts the fields of a book that is accepted whole at the front of the room; the answer's length is how many there are, never more than the
    book has bytes. Refusals are those of saga_read, then 19; each leaves the room as it was. What lies behind the fields stays as it was. */

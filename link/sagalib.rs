@@ -12,6 +12,9 @@ pub const BOOK_BYTES: usize = 65_536;
 /// A room of so many bytes holds every line of a listing.
 pub const LINE_BYTES: usize = 96;
 
+/// The most transactions that a book has: a list of so many numbers holds every order to replay in.
+pub const TRANSACTIONS: usize = 64;
+
 /// The answer of every function that can refuse: always the same four numbers.
 #[derive(Clone, Copy, Debug, PartialEq, Eq)]
 pub struct Answer {
@@ -21,7 +24,7 @@ pub struct Answer {
     pub events: u64,
     /// Where the refusal is: in bytes of the book, or for `write` in fields; 0 if nothing is refused.
     pub place: u64,
-    /// How many bytes or fields were accepted or written; 0 after a refusal to write.
+    /// How many bytes, fields or transactions were accepted or written; 0 after a refusal to write.
     pub length: u64,
 }
 
@@ -58,6 +61,13 @@ mod archive {
         );
         pub fn saga_next(book: *const u8, book_size: usize, saga: u64, step: *mut [u64; 3]);
         pub fn saga_left(book: *const u8, book_size: usize) -> u64;
+        pub fn saga_replay(
+            book: *const u8,
+            book_size: usize,
+            list: *mut u16,
+            list_size: usize,
+            answer: *mut [u64; 4],
+        );
         pub fn saga_unpack(
             book: *const u8,
             book_size: usize,
@@ -144,6 +154,23 @@ pub fn next(book: &[u8], saga: u64) -> Step {
 /// settles every begun saga in as many events.
 pub fn left(book: &[u8]) -> u64 {
     unsafe { archive::saga_left(book.as_ptr(), book.len()) }
+}
+
+/// Puts the transactions that hold a committed operation after the accepted events of a book at the front of the list, in an order in which their
+/// committed changes can be copied one transaction at a time. The length is how many there are, 0 if the tables are refused; 19 is the only refusal here,
+/// since every book has an order.
+pub fn replay(book: &[u8], list: &mut [u16]) -> Answer {
+    let mut answer = [0; 4];
+    unsafe {
+        archive::saga_replay(
+            book.as_ptr(),
+            book.len(),
+            list.as_mut_ptr(),
+            list.len(),
+            &mut answer,
+        )
+    };
+    answered(answer)
 }
 
 /// Puts the fields of a book that is accepted whole at the front of the room. There are never more fields than the book has bytes.

@@ -234,6 +234,42 @@ static void closed_step_by_step(void) {
   STEP(step, SAGA_NONE, 0, 0);
 }
 
+/* Transaction 1 changes an object and finishes before 0 does the same; 2, which is still active, has kept its read of it. */
+static const uint8_t replayed[] = {0x01, 0x00, 0x03, 0x01, 0x00, 0x01, 0x01, 0x04, 0x01, 0x00, 0x01, 0x02, 0x01, 0x01, 0x00, 0x04,
+                                   0x00, 0x00, 0x01, 0x02, 0x00, 0x01, 0x02, 0x04, 0x02, 0x00, 0x00, 0x06, 0x02, 0x02};
+
+/* The order of these first bytes of it is the first n of 1, 0, 2: in a long list, in one that just holds it, and not in one that is too short. */
+static void check_order(int at, size_t size, uint64_t events, size_t n) {
+  static const uint16_t order[] = {1, 0, 2};
+  uint16_t list[SAGA_TRANSACTIONS];
+  size_t rooms[] = {SAGA_TRANSACTIONS, n};
+  for (size_t i = 0; i < 2; i++) {
+    struct saga_answer answer = no_answer;
+    fill_fields(list, SAGA_TRANSACTIONS);
+    saga_replay(replayed, size, list, rooms[i], &answer);
+    check_answer(at, answer, 0, events, 0, n);
+    check(at, memcmp(list, order, n * sizeof list[0]) == 0, "the order");
+    check(at, fields_untouched(list, n, SAGA_TRANSACTIONS), "behind the order");
+  }
+  for (size_t room = 0; room < n; room++) {
+    struct saga_answer answer = no_answer;
+    fill_fields(list, SAGA_TRANSACTIONS);
+    saga_replay(replayed, size, list, room, &answer);
+    check_answer(at, answer, SAGA_NO_ROOM, events, 0, 0);
+    check(at, fields_untouched(list, 0, SAGA_TRANSACTIONS), "a list that is too short");
+  }
+}
+
+static void replayed_in_order(void) {
+  ANSWER(read_book(replayed, 30), 0, 9, 0, 30);
+  check_order(__LINE__, 30, 9, 3);
+  /* torn: of the accepted opening; refused tables: nobody, whatever the list */
+  check_order(__LINE__, 29, 8, 2);
+  check_order(__LINE__, 13, 3, 1);
+  check_order(__LINE__, 5, 0, 0);
+  check_order(__LINE__, 4, 0, 0);
+}
+
 static void unpacked_and_written(void) {
   uint16_t fields[32];
   struct saga_answer answer = no_answer;
@@ -340,6 +376,7 @@ int main(void) {
   after_the_listing();
   empty_and_torn();
   closed_step_by_step();
+  replayed_in_order();
   unpacked_and_written();
   long_books();
   return differences == 0 ? 0 : 1;

@@ -6,8 +6,8 @@
 mod sagalib;
 
 use sagalib::{
-    left, line, lines, next, opening, read, unpack, write, Answer, Event, Step, BOOK_BYTES,
-    LINE_BYTES,
+    left, line, lines, next, opening, read, replay, unpack, write, Answer, Event, Step, BOOK_BYTES,
+    LINE_BYTES, TRANSACTIONS,
 };
 
 const BYTE: u8 = 0xA5;
@@ -220,6 +220,40 @@ fn closed_step_by_step() {
     assert_eq!(left(&book), 0);
 }
 
+/// Transaction 1 changes an object and finishes before 0 does the same; 2, which is still active, has kept its read of it.
+const REPLAYED: [u8; 30] = [
+    0x01, 0x00, 0x03, 0x01, 0x00, 0x01, 0x01, 0x04, 0x01, 0x00, 0x01, 0x02, 0x01, 0x01, 0x00, 0x04,
+    0x00, 0x00, 0x01, 0x02, 0x00, 0x01, 0x02, 0x04, 0x02, 0x00, 0x00, 0x06, 0x02, 0x02,
+];
+
+/// A book's order, in a long list and in one that just holds it; one that is too short is left as it was.
+fn has_order(book: &[u8], events: u64, order: &[u16]) {
+    let n = order.len();
+    for room in [TRANSACTIONS, n] {
+        let mut list = [FIELD; TRANSACTIONS];
+        assert_eq!(
+            replay(book, &mut list[..room]),
+            answer(0, events, 0, n as u64)
+        );
+        assert_eq!(&list[..n], order);
+        assert!(list[n..].iter().all(|f| *f == FIELD));
+    }
+    for room in 0..n {
+        let mut list = [FIELD; TRANSACTIONS];
+        assert_eq!(replay(book, &mut list[..room]), answer(19, events, 0, 0));
+        assert_eq!(list, [FIELD; TRANSACTIONS]);
+    }
+}
+
+fn replayed_in_order() {
+    has_order(&REPLAYED, 9, &[1, 0, 2]);
+    // torn: of the accepted opening; refused tables: nobody, whatever the list
+    has_order(&REPLAYED[..29], 8, &[1, 0]);
+    has_order(&REPLAYED[..13], 3, &[1]);
+    has_order(&REPLAYED[..5], 0, &[]);
+    has_order(&REPLAYED[..4], 0, &[]);
+}
+
 /// A field of two bytes before the place: bytes are counted in reading, fields in writing.
 fn places_in_fields() {
     is_not_written(&[1, 0, 1, 1, 0, 5, 300], answer(2, 0, 7, 0));
@@ -257,6 +291,7 @@ fn all() {
     after_the_listing();
     empty_and_torn();
     closed_step_by_step();
+    replayed_in_order();
     places_in_fields();
     long_books();
 }

@@ -7,13 +7,14 @@ use std::fmt::Write;
 /// What is asked: a book to be read, or fields to be written, and the size of
 /// the lent room; or a book to be read with circles permitted in its tables,
 /// which takes no room; or the text of a plan of record moves and a book to
-/// tell them from.
+/// tell them from; or a book to be replayed, and the size of the lent list.
 #[derive(Clone, Debug, PartialEq, Eq)]
 pub enum Case {
     Book(Vec<u8>, usize),
     Fields(Vec<u16>, usize),
     CirclesBook(Vec<u8>),
     Moves(Vec<u8>, Vec<u8>),
+    Replay(Vec<u8>, usize),
 }
 
 impl Case {
@@ -24,6 +25,7 @@ impl Case {
             Case::Fields(fields, room) => write_answer(fields, *room),
             Case::CirclesBook(book) => circles_book_answer(book),
             Case::Moves(plan, book) => moves_answer(plan, book),
+            Case::Replay(book, size) => replay_answer(book, *size),
         }
     }
 }
@@ -65,9 +67,10 @@ fn put_opening(text: &mut String, opening: &[u8]) {
     writeln!(text, "opening {}", opening.len()).expect(PUT);
 }
 
-/// How much is left, and the report.
+/// How much is left, the order to replay in, and the report.
 fn put_state(text: &mut String, reading: &second::Reading) {
     *text += &second::left_line(reading);
+    *text += &second::replay_line(second::replay_order(reading));
     let report = second::report(reading);
     writeln!(text, "active {} lowest {}", report.active, report.lowest).expect(PUT);
     for (earlier, row) in report.pairs.iter().enumerate() {
@@ -98,4 +101,14 @@ fn moves_answer(plan: &[u8], book: &[u8]) -> Vec<u8> {
         Err(NotRead::Line(number)) => format!("line {number}\n").into_bytes(),
         Err(NotRead::TooLong) => Vec::new(),
     }
+}
+
+/// The order to replay in, as it stands in the lent list.
+fn replay_answer(book: &[u8], size: usize) -> Vec<u8> {
+    let mut list = vec![0; size];
+    let line = match second::replay(book, &mut list) {
+        Ok(count) => second::replay_line(list[..count].iter().map(|t| usize::from(*t))),
+        Err(refused) => refused_line(refused),
+    };
+    line.into_bytes()
 }

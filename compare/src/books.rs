@@ -4,6 +4,7 @@ use crate::aim;
 use crate::damage;
 use crate::draft::encode_field;
 use crate::noise;
+use crate::ordered;
 use crate::random::Random;
 use crate::story::{self, Story};
 use crate::stuck;
@@ -46,6 +47,14 @@ const MAKERS: [(usize, Maker); 22] = [
 /// One book in so many is a long one, every other of these too long.
 const LONG_ONES: u64 = 500;
 
+/// One book in so many is laid out for the order to replay in.
+const ORDERED_ONES: u64 = 20;
+
+/// Whether the book with the index is laid out for the order to replay in.
+pub fn is_ordered(index: u64) -> bool {
+    index % ORDERED_ONES == 7
+}
+
 /// The book with the index among those of the seed.
 pub fn book(seed: u64, index: u64) -> Made {
     let mut random = Random::new(seed, index);
@@ -54,6 +63,9 @@ pub fn book(seed: u64, index: u64) -> Made {
     }
     if index % (2 * LONG_ONES) == 2 * LONG_ONES - 1 {
         return noise::longest(&mut random);
+    }
+    if is_ordered(index) {
+        return ordered::ordered(&mut random);
     }
     let chosen = random.weighted(MAKERS.iter().map(|(weight, _)| *weight));
     let (_, maker) = MAKERS[chosen];
@@ -235,6 +247,7 @@ mod tests {
         let before_colon = kind.split([':', ',']).next().unwrap_or_default();
         match before_colon {
             "deep" | "full of operations" | "torn between events" | "shortest" => Some(0),
+            "ordered" => Some(0),
             "empty" | "torn in the tables" | "torn inside a number" => Some(2),
             "torn between fields" | "torn after an event code" => Some(2),
             "torn behind an unknown transaction" | "torn in a bad dependency" => Some(2),
@@ -276,7 +289,7 @@ mod tests {
         }
         let of_long_ones = |kind: &str| kind.starts_with("too long") || kind.starts_with("longest");
         let known = kinds.keys().filter(|kind| !of_long_ones(kind)).count();
-        assert_eq!(known, 69);
+        assert_eq!(known, 73);
     }
 
     #[test]

@@ -1,7 +1,7 @@
 //! Cases to ask two programs, and how they are asked.
 
 use crate::answers::Case;
-use crate::books::{book, field_list};
+use crate::books::{book, field_list, is_ordered};
 use crate::plans::{planned, Planned};
 
 const MOST_ROOM: usize = 65_536;
@@ -13,6 +13,7 @@ impl Case {
             Case::Fields(..) => b'w',
             Case::CirclesBook(..) => b'c',
             Case::Moves(..) => b'm',
+            Case::Replay(..) => b'r',
         }
     }
 
@@ -20,7 +21,7 @@ impl Case {
     /// is where the plan ends.
     fn room(&self) -> usize {
         match self {
-            Case::Book(_, room) | Case::Fields(_, room) => *room,
+            Case::Book(_, room) | Case::Fields(_, room) | Case::Replay(_, room) => *room,
             Case::CirclesBook(_) => 0,
             Case::Moves(plan, _) => plan.len(),
         }
@@ -28,7 +29,7 @@ impl Case {
 
     fn bytes(&self) -> Vec<u8> {
         match self {
-            Case::Book(book, _) | Case::CirclesBook(book) => book.clone(),
+            Case::Book(book, _) | Case::CirclesBook(book) | Case::Replay(book, _) => book.clone(),
             Case::Fields(fields, _) => fields.iter().flat_map(|f| f.to_le_bytes()).collect(),
             Case::Moves(plan, book) => [&plan[..], book].concat(),
         }
@@ -62,16 +63,21 @@ pub fn heading(index: usize) -> Vec<u8> {
 /// The cases of a seed: books, and a list of fields after every fourth. Every
 /// third has a room that is about as large as needed. Books whose tables can
 /// never move, and every eighth, are asked with circles permitted too. After
-/// every fourth there is a plan of record moves with a book of its own.
+/// every fourth there is a plan of record moves with a book of its own. Every
+/// fourth, and those laid out for it, are asked for the order to replay in too.
 pub fn made(seed: u64, count: u64) -> Vec<Case> {
     let mut cases = Vec::new();
     for index in 0..count {
         let bytes = book(seed, index).bytes;
         let room = room(index, bytes.len());
-        let never_moves = second::read(&bytes).number == second::refusal::NEVER_MOVES;
+        let reading = second::read(&bytes);
+        let never_moves = reading.number == second::refusal::NEVER_MOVES;
         cases.push(Case::Book(bytes.clone(), room));
         if never_moves || index.is_multiple_of(8) {
-            cases.push(Case::CirclesBook(bytes));
+            cases.push(Case::CirclesBook(bytes.clone()));
+        }
+        for size in list_sizes(index, second::replay_order(&reading).len()) {
+            cases.push(Case::Replay(bytes.clone(), size));
         }
         if index.is_multiple_of(4) {
             let fields = field_list(seed, index);
@@ -84,6 +90,19 @@ pub fn made(seed: u64, count: u64) -> Vec<Case> {
         }
     }
     cases
+}
+
+/// The sizes of the lists that are lent for an order to replay in.
+fn list_sizes(index: u64, needed: usize) -> Vec<usize> {
+    let one_too_short = needed.saturating_sub(1);
+    if is_ordered(index) {
+        return vec![0, one_too_short, needed, needed + 1];
+    }
+    let by_turns = [one_too_short, needed, needed + 1, 0, MOST_ROOM];
+    match index % 4 {
+        1 => vec![by_turns[index as usize / 4 % by_turns.len()]],
+        _ => Vec::new(),
+    }
 }
 
 fn room(index: u64, about: usize) -> usize {
@@ -125,6 +144,7 @@ fn fixed_case(line: &str) -> Option<Case> {
             lent,
         )),
         ("c", None) => Some(Case::CirclesBook(numbers(words, byte)?)),
+        ("r", Some(size)) => Some(Case::Replay(numbers(words, byte)?, size)),
         _ => None,
     }
 }
@@ -210,7 +230,8 @@ mod tests {
     #[test]
     fn a_line_of_the_fixed_cases() {
         let text = "# not this\n\nb 01 x2 0A /3\nw 7 300\nc 01 x2 FF x1 03 04\n\
-                    m \"move A/B\\n\" x2 \"x\\t\" \"#\\r\" x1 \"\\x7Cz\\x22\" | 01 x2 0F\nm | 01\n";
+                    m \"move A/B\\n\" x2 \"x\\t\" \"#\\r\" x1 \"\\x7Cz\\x22\" | 01 x2 0F\nm | 01\n\
+                    r 01 x2 0A /0\n";
         let cases = fixed(text).unwrap();
         assert_eq!(
             cases,
@@ -220,6 +241,7 @@ mod tests {
                 Case::CirclesBook(vec![1, 255, 255, 3, 4]),
                 Case::Moves(b"move A/B\nx\t#\rx\t#\r|z\"".to_vec(), vec![1, 15, 15]),
                 Case::Moves(vec![], vec![1]),
+                Case::Replay(vec![1, 10, 10], 0),
             ]
         );
     }
@@ -229,7 +251,7 @@ mod tests {
         let text = include_str!("../fixed.txt");
         let lines = text
             .lines()
-            .filter(|line| line.starts_with(['b', 'w', 'c', 'm']));
+            .filter(|line| line.starts_with(['b', 'w', 'c', 'm', 'r']));
         assert_eq!(fixed(text).map(|cases| cases.len()), Ok(lines.count()));
     }
 
@@ -243,6 +265,8 @@ mod tests {
             "b xx 01",
             "c 1G",
             "c 01 /3",
+            "r 01",
+            "r 1G /3",
             "m 01",
             "m | 1G",
             "m \"move\" 01 | 01",
@@ -263,15 +287,17 @@ mod tests {
             Case::Fields(vec![258], 65_536),
             Case::CirclesBook(vec![7, 8]),
             Case::Moves(vec![4; 300], vec![5, 6]),
+            Case::Replay(vec![3], 260),
         ];
         let asked = [
-            &[4, 0, 0][..],
+            &[5, 0, 0][..],
             &[b'b', 2, 0, 0, 1, 0, 0, 9],
             &[b'w', 0, 0, 1, 2, 0, 0, 2, 1],
             &[b'c', 0, 0, 0, 2, 0, 0, 7, 8],
             &[b'm', 44, 1, 0, 46, 1, 0],
             &[4; 300],
             &[5, 6],
+            &[b'r', 4, 1, 0, 1, 0, 0, 3],
         ];
         assert_eq!(question(&cases), asked.concat());
     }
@@ -280,7 +306,7 @@ mod tests {
     fn answers_of_a_book_and_of_a_writing() {
         let book = Case::Book(vec![1, 0, 0, 0, 0], 5);
         let answer =
-            "book accepted 0\nopening 5\nleft 0\nactive 0 lowest 64\nunpacked 5\n1\n0\n0\n0\n0\n";
+            "book accepted 0\nopening 5\nleft 0\nreplay\nactive 0 lowest 64\nunpacked 5\n1\n0\n0\n0\n0\n";
         assert_eq!(book.answer(), answer.as_bytes());
         let writing = Case::Fields(vec![1, 0, 0, 0, 0], 4);
         assert_eq!(writing.answer(), b"refused 19 0 0\n");
@@ -291,11 +317,12 @@ mod tests {
         // Plain 0 and 1 wait for each other, 2 begins.
         let bytes = vec![1, 0, 3, 0, 2, 0, 1, 4, 1, 0, 4, 1, 2];
         let book = Case::Book(bytes.clone(), 20);
-        let answer = "book refused 21 0 4\nopening 0\nleft 0\nactive 0 lowest 64\nrefused 21 0 4\n";
+        let answer =
+            "book refused 21 0 4\nopening 0\nleft 0\nreplay\nactive 0 lowest 64\nrefused 21 0 4\n";
         assert_eq!(book.answer(), answer.as_bytes());
         let permitted = Case::CirclesBook(bytes);
         let answer = "book accepted 1\nt 0 idle\nt 1 idle\nt 2 active\n\
-                      opening 13\nleft 0\nactive 1 lowest 2\n";
+                      opening 13\nleft 0\nreplay\nactive 1 lowest 2\n";
         assert_eq!(permitted.answer(), answer.as_bytes());
     }
 
@@ -304,7 +331,7 @@ mod tests {
         // A saga of two steps, its first done, its second at work; then 13.
         let bytes = vec![1, 1, 2, 0, 0, 0, 1, 0, 1, 1, 2, 1, 1, 2, 2, 0];
         let answer = "book refused 13 4 14\nt 0 active\nt 1 committed\nt 2 active\nt 3 idle\n\
-                      saga 0 4 abort 0\nopening 14\nleft 4\nactive 2 lowest 0\n";
+                      saga 0 4 abort 0\nopening 14\nleft 4\nreplay\nactive 2 lowest 0\n";
         let refused = format!("{answer}refused 13 4 14\n");
         assert_eq!(Case::Book(bytes.clone(), 9).answer(), refused.as_bytes());
         assert_eq!(Case::CirclesBook(bytes).answer(), answer.as_bytes());
@@ -327,11 +354,44 @@ mod tests {
     }
 
     #[test]
-    fn about_a_sixth_of_the_cases_are_plans() {
+    fn answers_of_an_order_to_replay_in() {
+        // Plain 1 writes a and commits, then plain 0 does.
+        let book = vec![
+            1, 0, 2, 1, 0, 1, 0, 1, 1, 4, 1, 0, 1, 2, 1, 4, 0, 0, 1, 2, 0,
+        ];
+        let answer = |book: &[u8], size| {
+            String::from_utf8(Case::Replay(book.to_vec(), size).answer()).unwrap()
+        };
+        assert_eq!(answer(&book, 2), "replay 1 0\n");
+        assert_eq!(answer(&book, 64), "replay 1 0\n");
+        assert_eq!(answer(&book, 1), "refused 19 6 0\n");
+        assert_eq!(answer(&book[..20], 0), "refused 19 5 0\n");
+        assert_eq!(answer(&book[..20], 1), "replay 1\n");
+        assert_eq!(answer(&book[..3], 0), "replay\n");
+    }
+
+    #[test]
+    fn lists_are_lent_in_all_sizes() {
+        let mut sizes = [0; 4];
+        for case in made(1, 400) {
+            let Case::Replay(book, size) = case else {
+                continue;
+            };
+            let needed = second::replay_order(&second::read(&book)).len();
+            sizes[0] += usize::from(size + 1 == needed);
+            sizes[1] += usize::from(size == needed);
+            sizes[2] += usize::from(size > needed);
+            sizes[3] += usize::from(size == 0 && needed > 1);
+        }
+        assert!(sizes.iter().all(|count| *count >= 10), "{sizes:?}");
+    }
+
+    #[test]
+    fn about_a_seventh_of_the_cases_are_plans() {
         let cases = made(1, 400);
         let plans = cases.iter().filter(|case| case.letter() == b'm').count();
         assert_eq!(plans, 100);
-        assert!((5..=7).contains(&(cases.len() / plans)));
+        assert!((6..=8).contains(&(cases.len() / plans)));
     }
 
     #[test]

@@ -2,7 +2,8 @@
 
 use crate::barred::Barred;
 use crate::books::Made;
-use crate::replay::replay;
+use crate::orders::Orders;
+use crate::replay::{model_after, replay};
 use crate::singles::Singles;
 use std::collections::BTreeMap;
 use std::fmt;
@@ -24,6 +25,7 @@ pub struct Counts {
     circles_numbers: BTreeMap<u8, u64>,
     singles: Singles,
     barred: Barred,
+    orders: Orders,
 }
 
 /// The refusals that reading can come to.
@@ -43,6 +45,9 @@ impl Counts {
             self.singles.count(model, event, number);
             self.barred.count(model, event, number);
         });
+        if let Some(model) = model_after(&made.bytes, &reading) {
+            self.orders.count(&model);
+        }
         if reading.number == second::refusal::NEVER_MOVES {
             let circles_number = second::read_circles_permitted(&made.bytes).number;
             *self.circles_numbers.entry(circles_number).or_default() += 1;
@@ -77,7 +82,7 @@ impl fmt::Display for Counts {
                 _ => writeln!(output, "circles {count:6} refused {number}")?,
             }
         }
-        write!(output, "{}{}", self.singles, self.barred)
+        write!(output, "{}{}{}", self.singles, self.barred, self.orders)
     }
 }
 
@@ -101,6 +106,9 @@ mod tests {
             assert!(counts.numbers[undo_on_a_ring] >= 36);
             for (count, name) in counts.barred.named() {
                 assert!(count >= 3, "{count} {name}");
+            }
+            for (count, name) in counts.orders.counted() {
+                assert!(count >= 20, "{count} {name}");
             }
         }
     }

@@ -11,6 +11,8 @@ mod damage;
 mod draft;
 mod model;
 mod noise;
+mod ordered;
+mod orders;
 mod plans;
 mod random;
 mod replay;

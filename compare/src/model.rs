@@ -583,6 +583,35 @@ impl Model {
         pairs
     }
 
+    /// Those that answer for a committed operation, in the order to replay them
+    /// in.
+    pub fn replay_order(&self) -> Vec<usize> {
+        self.replay_order_with_ties_of(Phase::Committed)
+    }
+
+    /// The same, as if ties of operations in this phase counted too.
+    pub fn replay_order_with_ties_of(&self, phase: Phase) -> Vec<usize> {
+        let pairs = self.pairs_by_ties_of(|operation| {
+            operation.phase == Phase::Committed || operation.phase == phase
+        });
+        let kept = self.operations.iter();
+        let kept = kept.filter(|operation| operation.phase == Phase::Committed);
+        let mut left = kept.fold(0u64, |all, operation| all | 1 << operation.responsible);
+        let mut order = Vec::new();
+        let is_left = |left: u64, t: &usize| left >> t & 1 == 1;
+        while left != 0 {
+            let comes_after_another = (0..64)
+                .filter(|t| is_left(left, t))
+                .fold(0, |all, t| all | pairs[t]);
+            let free = left & !comes_after_another;
+            // Where ties lead in a circle, as committed ones never do, any will do.
+            let next = if free == 0 { left } else { free }.trailing_zeros() as usize;
+            order.push(next);
+            left &= !(1 << next);
+        }
+        order
+    }
+
     /// Takes in an event with the verdict 0.
     pub fn take(&mut self, event: Event) {
         match event {

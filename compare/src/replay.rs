@@ -23,6 +23,20 @@ pub fn replay(book: &[u8], reading: &Reading, mut show: impl FnMut(&Model, Event
     }
 }
 
+/// The state that the accepted events of a book have come to; none if its
+/// tables were refused.
+pub fn model_after(book: &[u8], reading: &Reading) -> Option<Model> {
+    if reading.opening == 0 {
+        return None;
+    }
+    let Draft { tables, events } = Draft::of_book(book)?;
+    let mut model = Model::new(&tables);
+    for event in &events[..reading.events] {
+        model.take(*event);
+    }
+    Some(model)
+}
+
 #[cfg(test)]
 mod tests {
     use super::*;
@@ -45,5 +59,20 @@ mod tests {
             });
         }
         assert!(shown > 20 * BOOKS);
+    }
+
+    #[test]
+    fn the_model_and_the_second_program_replay_in_the_same_order() {
+        let mut named = 0;
+        for index in 0..BOOKS {
+            let made = book(18, index);
+            let reading = second::read_circles_permitted(&made.bytes);
+            let order = second::replay_order(&reading);
+            let model = model_after(&made.bytes, &reading);
+            let by_model = model.map(|model| model.replay_order());
+            assert_eq!(by_model.unwrap_or_default(), order, "{index}");
+            named += order.len() as u64;
+        }
+        assert!(named > 2 * BOOKS / 3, "{named}");
     }
 }

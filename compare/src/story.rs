@@ -76,6 +76,16 @@ const MOODS: [Mood; 7] = [
     MOVING_SAGAS,
     SORTING_OUT,
 ];
+const KEEPING: Mood = Mood {
+    begin: 8,
+    commit: 5,
+    abort: 2,
+    operate: 20,
+    delegate: 5,
+    saga: 6,
+    keep: 10,
+    drop: 1,
+};
 const FILLING: Mood = Mood {
     begin: 20,
     operate: 400,
@@ -120,6 +130,13 @@ impl Story {
     pub fn move_sagas(&mut self, random: &mut Random, events: usize) {
         for _ in 0..events {
             self.go_on_once(random, MOVING_SAGAS);
+        }
+    }
+
+    /// Goes on by about so many events; much of what is done is committed.
+    pub fn settle(&mut self, random: &mut Random, events: usize) {
+        for _ in 0..events {
+            self.go_on_once(random, KEEPING);
         }
     }
 

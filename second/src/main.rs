@@ -12,6 +12,7 @@ use std::process::ExitCode;
 use std::time::{Duration, Instant};
 
 const USAGE: &str = "usage: second listing | opening | unpack [ROOM] | write [ROOM] | pairs | left
+       second replay [ROOM]
        second circles-listing | circles-opening
        second moves PLAN
        second listings FOLDER
@@ -59,6 +60,7 @@ fn answer(arguments: &[OsString]) -> Result<Vec<u8>, String> {
             let reading = second::read(&book_from_input()?);
             Ok(second::left_line(&reading).into_bytes())
         }
+        (Some("replay"), room @ ([] | [_])) => replay(room_size(room)?),
         (Some("moves"), [plan]) => moves(Path::new(plan)),
         (Some("listings"), [folder]) => listings(Path::new(folder)),
         (Some("measure"), [file, times]) => measure(Path::new(file), number(times)?),
@@ -166,6 +168,18 @@ fn pairs(reading: &Reading) -> Vec<u8> {
         }
     }
     text.into_bytes()
+}
+
+fn replay(room_size: usize) -> Result<Vec<u8>, String> {
+    let book = book_from_input()?;
+    let mut list = vec![0; room_size];
+    Ok(match second::replay(&book, &mut list) {
+        Ok(count) => {
+            let order = list[..count].iter().map(|t| usize::from(*t));
+            second::replay_line(order).into_bytes()
+        }
+        Err(refused) => refused_line(refused),
+    })
 }
 
 fn moves(file: &Path) -> Result<Vec<u8>, String> {

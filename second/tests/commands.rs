@@ -175,6 +175,22 @@ fn left() {
 }
 
 #[test]
+fn replay() {
+    // Plain 1 writes a and commits, then plain 0 does.
+    let book = [
+        1, 0, 2, 1, 0, 1, 0, 1, 1, 4, 1, 0, 1, 2, 1, 4, 0, 0, 1, 2, 0,
+    ];
+    answers(&["replay"], &book, "replay 1 0\n");
+    answers(&["replay", "2"], &book, "replay 1 0\n");
+    answers(&["replay", "1"], &book, "refused 19 6 0\n");
+    answers(&["replay", "1"], &book[..20], "replay 1\n");
+    answers(&["replay", "0"], &LISTED, "replay\n");
+    answers(&["replay", "0"], &[7], "replay\n");
+    complains(&["replay", "many"], &LISTED);
+    complains(&["replay", "1", "2"], &LISTED);
+}
+
+#[test]
 fn moves() {
     let folder = folder("moves");
     let plan = |name: &str, text: &[u8]| {

@@ -114,6 +114,7 @@ fn take_case(rest: &mut &[u8]) -> Option<Case> {
             let (plan, book) = bytes.split_at_checked(room)?;
             Some(Case::Moves(plan.to_vec(), book.to_vec()))
         }
+        b'r' => Some(Case::Replay(bytes.to_vec(), room)),
         _ => None,
     }
 }
@@ -142,7 +143,8 @@ mod tests {
     #[test]
     fn a_question_is_read_back() {
         let cases =
-            fixed("b 01 80 /3\nw 7 300 65535\nc 01\nm \"list a\" | 01\nb x70000 01\n").unwrap();
+            fixed("b 01 80 /3\nw 7 300 65535\nc 01\nm \"list a\" | 01\nb x70000 01\nr 01 02 /4\n")
+                .unwrap();
         let read: Vec<Case> = asked(&question(&cases)).unwrap();
         let show = |cases: &dyn std::fmt::Debug| format!("{cases:?}");
         assert_eq!(show(&read), show(&cases));

@@ -1,8 +1,9 @@
 // Answers the cases on its standard input one after another, so that two programs can be held against each other.
 //
 // A case is a letter, the size of the lent room, a length, and that many bytes; sizes and lengths have three bytes, low byte first. 'b' is a
-// book: its listing, the length of its accepted opening, how much is left, the report on its state, and its fields unpacked into the room. 'c' is a book
-// whose begin dependencies may go round in a circle: the same without its fields. 'w' is a list of fields, two bytes each, low byte first: what
+// book: its listing, the length of its accepted opening, how much is left, the order to replay in, the report on its state, and its fields unpacked into
+// the room. 'c' is a book whose begin dependencies may go round in a circle: the same without its fields. 'r' is a book too, and the order to replay in
+// is put into the room. 'w' is a list of fields, two bytes each, low byte first: what
 // writing them into the room answers. 'm' is a plan as staff write it, as long as the number says that stands for a room, and a book behind it: what
 // the program `recordmove` prints of them, or the number of the line that is not understood. It stops at the end of the input or where that is torn. A case that was not read gets no answer, and what
 // was not read, written or understood is said on standard error.
@@ -14,6 +15,7 @@ use libc::STDIN_FILENO;
 use libc::STDOUT_FILENO;
 use listing::Placed;
 use listing::Text;
+use replay::Copied;
 use telling::Told;
 use terms::Book;
 use terms::Refusal;
@@ -126,12 +128,49 @@ fn say_left(reading: Reading) {
     say_count(b"left", left);
 }
 
+// A blank and a transaction.
+fn then_transaction(t: u16) {
+    then_number(t as usize);
+}
+
+// The transactions of an order on one line.
+fn say_order(order: &[u16]) {
+    say(b"replay");
+    let mut i: usize = 0;
+    while i < order.len() {
+        then_transaction(order[i]);
+        i += 1;
+    }
+    say(b"\n");
+}
+
+// What putting the order to replay in into a lent list answers.
+fn answer_replay(reading: Reading, list: &mut [u16]) {
+    let state = reading.state;
+    let ops = state.ops;
+    match replay::put_order(ops, list) {
+        Copied::Wrote(n) => {
+            if n <= list.len() {
+                say_order(&list[..n]);
+            }
+        }
+        Copied::NoRoom => say_refused(Refusal::NoRoom, reading.events, 0),
+    }
+}
+
+// The order in a list that holds every order.
+fn say_replay(reading: Reading) {
+    let mut list = [0u16; Book::TRANSACTIONS];
+    answer_replay(reading, &mut list);
+}
+
 fn answer_book(bytes: &[u8], room: &mut [u16]) {
     let reading = book::read(bytes);
     say_listing(reading);
     let opening = book::opening(bytes);
     say_count(b"opening", opening.len());
     say_left(reading);
+    say_replay(reading);
     say_report(reading);
     unpack(bytes, room);
 }
@@ -142,6 +181,7 @@ fn circles_case(bytes: &[u8]) {
     let opening = book::opening_permitting_circles(bytes);
     say_count(b"opening", opening.len());
     say_left(reading);
+    say_replay(reading);
     say_report(reading);
 }
 
@@ -191,6 +231,15 @@ fn book_case(bytes: &[u8], size: usize) {
     answer_book(bytes, &mut room[..size]);
 }
 
+fn replay_case(bytes: &[u8], size: usize) {
+    let mut room = [0u16; 65536];
+    if 65536 < size {
+        return;
+    }
+    let reading = book::read(bytes);
+    answer_replay(reading, &mut room[..size]);
+}
+
 fn write_case(bytes: &[u8], size: usize) {
     let mut fields = [0u16; 65537];
     let mut room = [0u8; 65536];
@@ -223,6 +272,8 @@ fn answer(letter: u8, bytes: &[u8], size: usize) {
         write_case(bytes, size);
     } else if letter == b'c' {
         circles_case(bytes);
+    } else if letter == b'r' {
+        replay_case(bytes, size);
     } else if letter == b'm' {
         move_case(bytes, size);
     } else {

@@ -22,6 +22,17 @@ front-more l room n v e h =
     rw (drop-cons room n 0 h, add-one n)
     (set-at l (getD room n 0) (drop (suc n) room) v n e ∙ sym (append-snoc l v (drop (suc n) room)))
 
+pub front-suc : (l : List ℕ) (i : ℕ) → i < length l → take (i + 1) l ≡ take i l ++ (getD l i 0 ∷ [])
+front-suc l i h = rw (add-one i) (take-suc l i 0 h)
+
+-- the first i + 1 of a list at the front of a room that holds its first i
+pub copy-more : (l room now : List ℕ) (i : ℕ) → i < length l → i < length room → now ≡ take i l ++ drop i room
+    → set now i (getD l i 0) ≡ take (i + 1) l ++ drop (i + 1) room
+copy-more l room now i h k e =
+    ap (λ (s : List ℕ). set s i (getD l i 0)) e
+    ∙ front-more (take i l) room i (getD l i 0) (length-take-le i l (omega arith)) k
+    ∙ ap (λ (s : List ℕ). s ++ drop (i + 1) room) (sym (front-suc l i h))
+
 -- ---- the first n of a list, and a list with f applied, after a store
 
 pub take-low : {A : Type 0} (n i : ℕ) (l : List A) (d : A) → i < n → getD (take n l) i d ≡ getD l i d

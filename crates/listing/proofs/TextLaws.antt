@@ -6,9 +6,9 @@ use native.Mathlib.Numerals.{add-one}
 use native.Mathlib.Omega.{arith}
 use borrow.Author.Tests.{lt-ltb, le-ltb}
 use lib.ListN.{length, take, drop, getD, set, length-append, length-drop, length-take}
-use lib.Seq.{take-suc, take-suc-set, length-take-le, take-all}
+use lib.Seq.{take-suc-set, length-take-le, take-all}
 use Rattle.laws.proofs.Decisions.{lt-or}
-use Rattle.laws.proofs.ListLaws.{front-more}
+use Rattle.laws.proofs.ListLaws.{front-suc}
 use Rattle.listing.specs.declared.Put.the-variants.{Wrote, NoRoom}
 use Rattle.listing.specs.declared.Text.{Text}
 use Rattle.listing.specs.Texts.{mostText, putAnswer, putRoom, textOf, withByte, withAll}
@@ -42,9 +42,6 @@ unfolding withAll
 all-append l [] ys = refl
 all-append l (b ∷ bs) ys = all-append (withByte l b) bs ys
 
-front-suc : (l : List ℕ) (i : ℕ) → i < length l → take (i + 1) l ≡ take i l ++ (getD l i 0 ∷ [])
-front-suc l i h = rw (add-one i) (take-suc l i 0 h)
-
 -- the first i + 1 bytes of a word are the first i and one more
 pub all-more : (l letters : List ℕ) (i : ℕ) → i < length letters
     → withAll l (take (i + 1) letters) ≡ withByte (withAll l (take i letters)) (getD letters i 0)
@@ -59,14 +56,6 @@ all-fits l [] h = sym (append-nil l)
 all-fits l (b ∷ bs) h =
     rw (lt-ltb (length l) mostText (omega arith))
     (all-fits (l ++ (b ∷ [])) bs (simp length-append (omega arith)) ∙ append-assoc l (b ∷ []) bs)
-
--- one byte more of a text at the front of a room
-pub copy-more : (text room now : List ℕ) (i : ℕ) → i < length text → i < length room → now ≡ take i text ++ drop i room
-    → set now i (getD text i 0) ≡ take (i + 1) text ++ drop (i + 1) room
-copy-more text room now i h k e =
-    ap (λ (l : List ℕ). set l i (getD text i 0)) e
-    ∙ front-more (take i text) room i (getD text i 0) (length-take-le i text (omega arith)) k
-    ∙ ap (λ (l : List ℕ). l ++ drop (i + 1) room) (sym (front-suc text i h))
 
 -- one part, and then the rest of a line
 pub then : (l xs ys : List ℕ) {t u : List ℕ} → t ≡ withAll l xs → u ≡ withAll t ys → u ≡ withAll l (xs ++ ys)

@@ -62,7 +62,7 @@ since-and n i f false = since-none n i (λ q. f q && false) (λ q. and-false (f 
 
 -- ---- one tie, in the order in which the sweep looks
 
-eqb-sym : (a b : ℕ) → eqb a b ≡ eqb b a
+pub eqb-sym : (a b : ℕ) → eqb a b ≡ eqb b a
 eqb-sym a b = same-or a b (λ e. eq-eqb a b e ∙ sym (eq-eqb b a (sym e))) (λ e. ne-eqb a b e ∙ sym (ne-eqb b a (λ f. e (sym f))))
 
 shuffle : (c w h s e f : Bool) → (((c && w) && (not h && not s)) && (e && f)) ≡ ((w && (not h && (c && f))) && (e && not s))

@@ -35,7 +35,7 @@ fn with_writer(mark: Mark, writers: u64, a: usize) -> u64
 }
 
 // One operation met on the way down: its transaction stands before the others that use its object later, and is one of those itself.
-fn sweep_one(
+pub fn sweep_one(
     p: Operation,
     users: &mut [u64; Book::OBJECTS],
     writers: &mut [u64; Book::OBJECTS],

@@ -11,6 +11,8 @@ use Rattle.number.specs.Number.{ceiling1}
 use Rattle.packing.specs.Fields.{encodes, fieldsBefore}
 use Rattle.closing.specs.Closing.{outstanding, closing}
 use Rattle.closing.specs.declared.NextStep.{NextStep}
+use Rattle.replay.specs.Replay.{orderOf, copyAnswer}
+use Rattle.replay.specs.declared.Copied.{Copied}
 use Rattle.book.specs.Reading.{openingOf}
 use Rattle.book.specs.Packing.{unpackOutcome, writeOutcome, writtenRoom}
 use Rattle.tables.specs.declared.Circles.the-variants.{Forbidden}
@@ -21,7 +23,7 @@ use Rattle.book.proofs.OpeningLaws.{opening-le}
 use Rattle.book.proofs.PackingLaws.{wrote-all}
 use Rattle.listing.specs.Lines.{placeAnswer}
 use Rattle.listing.specs.declared.Placed.{Placed}
-use Rattle.sagalib.specs.Numbers.{reading, four, readNumbers, outcomeNumbers, unpackNumbers, writeNumbers, lineOutcome, lineNumbers, stepNumbers, nextNumbers}
+use Rattle.sagalib.specs.Numbers.{reading, four, readNumbers, outcomeNumbers, unpackNumbers, writeNumbers, lineOutcome, lineNumbers, orderOutcome, replayNumbers, stepNumbers, nextNumbers}
 
 -- ---- reading, and what rests on a reading
 
@@ -41,6 +43,11 @@ module _ (s : List ℕ) (r : Reading) (read : r ≡ reading s) where
       → (l : List ℕ) → l ≡ outcomeNumbers (r .events) o → l ≡ lineNumbers s k room
   unfolding lineNumbers
   line-is k room placed p o q l e = rw (e, q, p, read)
+
+  pub replay-is : (room : List ℕ) (copied : Copied) → copied ≡ copyAnswer (orderOf (r .state .ops)) room → (o : Outcome) → o ≡ orderOutcome (r .events) copied
+      → (l : List ℕ) → l ≡ outcomeNumbers (r .events) o → l ≡ replayNumbers s room
+  unfolding replayNumbers
+  replay-is room copied p o q l e = rw (e, q, p, read)
 
   pub next-is : (saga owed : ℕ) → owed ≡ outstanding (r .tables) (r .state) saga → (step : NextStep) → step ≡ closing (r .tables) (r .state) saga
       → (l : List ℕ) → l ≡ stepNumbers owed step → l ≡ nextNumbers s saga

@@ -10,6 +10,9 @@ use Rattle.packing.specs.Fields.{encodes}
 use Rattle.closing.specs.Closing.{outstanding, closing}
 use Rattle.closing.specs.declared.NextStep.{NextStep}
 use Rattle.closing.specs.declared.NextStep.the-variants.{NoStep, ToBegin, ToCommit, ToAbort}
+use Rattle.replay.specs.Replay.{orderOf, copyAnswer}
+use Rattle.replay.specs.declared.Copied.{Copied}
+use Rattle.replay.specs.declared.Copied.the-variants.{Wrote as WroteOrder, NoRoom as NoRoomForOrder}
 use Rattle.book.specs.Reading.{readingOf, openingOf}
 use Rattle.book.specs.Packing.{unpackOutcome, writeOutcome}
 use Rattle.book.specs.declared.Reading.{Reading}
@@ -54,6 +57,17 @@ lineOutcome events NoLine = Wrote 0
 unfoldable pub lineNumbers : List ℕ → ℕ → List ℕ → List ℕ
 lineNumbers s k room =
     outcomeNumbers (reading s .events) (lineOutcome (reading s .events) (placeAnswer (reading s) k room))
+
+-- the order to replay in; that of a book whose tables are refused is empty
+abbrev pub orderOutcome : ℕ → Copied → Outcome
+orderOutcome events (WroteOrder n) = Wrote n
+orderOutcome events NoRoomForOrder = Refuses NoRoom events 0
+
+abbrev pub orderIn : List ℕ → List ℕ
+orderIn s = orderOf (reading s .state .ops)
+
+unfoldable pub replayNumbers : List ℕ → List ℕ → List ℕ
+replayNumbers s room = outcomeNumbers (reading s .events) (orderOutcome (reading s .events) (copyAnswer (orderIn s) room))
 
 -- ---- the three numbers of a closing step: its event as a book has it ("1 begin t; 2 commit t; 3 abort t"), 0 if there is none; its
 -- transaction; and the number outstanding

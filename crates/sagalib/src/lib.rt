@@ -1,20 +1,22 @@
 // The saga book for programs in C and Rust.
 //
 // Each function takes any bytes and any numbers: there is nothing that a caller has to look at first. An answer is always the same four
-// numbers: the refusal's number, 0 if there is none; the events accepted; the refusal's place; and how many bytes or fields were accepted or
-// written. A refusal leaves a lent room as it was. A line that is not in the listing is no refusal: nothing is written for it.
+// numbers: the refusal's number, 0 if there is none; the events accepted; the refusal's place; and how many bytes, fields or transactions were
+// accepted or written. A refusal leaves a lent room as it was. A line that is not in the listing is no refusal: nothing is written for it.
 use book::Outcome;
 use closing::NextStep;
 use listing::Placed;
+use replay::Copied;
 use terms::Refusal;
 ghost use mathlib.Core.Path.{_≡_};
 ghost use lib.ListN.{length};
 ghost use Rattle.number.specs.Number.{ceiling1};
 ghost use Rattle.left.specs.Left.{leftIn};
+ghost use Rattle.replay.specs.Replay.{copyRoom};
 ghost use Rattle.book.specs.Reading.{openingOf};
 ghost use Rattle.book.specs.Packing.{unpackedRoom, writtenRoom};
 ghost use Rattle.listing.specs.Lines.{lineCount, placeRoom};
-ghost use Rattle.sagalib.specs.Numbers.{reading, readNumbers, outcomeNumbers, unpackNumbers, writeNumbers, lineOutcome, lineNumbers, stepNumbers, nextNumbers};
+ghost use Rattle.sagalib.specs.Numbers.{reading, readNumbers, outcomeNumbers, unpackNumbers, writeNumbers, lineOutcome, lineNumbers, orderOutcome, orderIn, replayNumbers, stepNumbers, nextNumbers};
 
 // The answer after writing for a book of so many accepted events; a refusal says by itself how many it came after.
 fn outcome_numbers(events: usize, outcome: Outcome) -> [u64; 4]
@@ -37,6 +39,16 @@ fn line_outcome(events: usize, placed: Placed) -> Outcome
         Placed::Wrote(n) => Outcome::Wrote(n),
         Placed::NoRoom => Outcome::Refuses(Refusal::NoRoom, events, 0),
         Placed::NoLine => Outcome::Wrote(0),
+    }
+}
+
+// What came of putting an order into a list.
+fn order_outcome(events: usize, copied: Copied) -> Outcome
+    ensures { λ r. ⌜ r ≡ orderOutcome events copied ⌝ }
+{
+    match copied {
+        Copied::Wrote(n) => Outcome::Wrote(n),
+        Copied::NoRoom => Outcome::Refuses(Refusal::NoRoom, events, 0),
     }
 }
 
@@ -121,6 +133,22 @@ pub extern "C" fn saga_left(book: &[u8]) -> u64
     let tables = read.tables;
     let state = read.state;
     left::left_of(tables, state) as u64
+}
+
+// Puts the transactions that hold a committed operation after the accepted events of a book, in the order in which their changes can be replayed, at the
+// front of a lent list.
+#[no_mangle]
+pub extern "C" fn saga_replay(book: &[u8], list: &mut [u16], answer: &mut [u64; 4])
+    ensures { λ _. ⌜ (now (answer .exit) ≡ replayNumbers (now (book .entry)) (now (list .entry))) × (now (list .exit) ≡ copyRoom (orderIn (now (book .entry))) (now (list .entry))) ⌝ }
+{
+    let read = book::read(book);
+    let events = read.events;
+    let state = read.state;
+    let ops = state.ops;
+    let copied = replay::put_order(ops, list);
+    let outcome = order_outcome(events, copied);
+    let numbers = outcome_numbers(events, outcome);
+    *answer = numbers;
 }
 
 // Puts the fields of a book that is accepted whole at the front of a lent room.

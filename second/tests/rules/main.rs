@@ -9,6 +9,7 @@ mod line;
 mod moves;
 mod never_moving;
 mod refusals;
+mod replay;
 mod single;
 mod ties;
 mod undo_rings;

@@ -4,8 +4,8 @@ use lib.ListN.{length}
 use lib.Seq.{length-take-le}
 use borrow.Author.Needs.{needs}
 use Rattle.input.proofs.FillingLaws.{whole-within}
-use Rattle.sagabook.proofs.list.Statement.{statement}
-use Rattle.sagabook.proofs.list.Tie as tie
+use Rattle.sagabook.proofs.tell.Statement.{statement}
+use Rattle.sagabook.proofs.tell.Tie as tie
 
 -- the book is in the room
 within : (c : tie.After-known-told) → c .before .filled .given .0 .0 ≤ length (c .before .before .before .before .fill .last .1 .0)
@@ -35,29 +35,17 @@ returns c = search needs
 array-share-prefix-bytes : tie.Need-array-share-prefix-bytes
 array-share-prefix-bytes c = within c
 
-slice-aggregate-read-as : tie.Need-slice-aggregate-read-as
-slice-aggregate-read-as c = sym (length-take-le _ _ (within (c .before)))
+slice-aggregate-tell-of : tie.Need-slice-aggregate-tell-of
+slice-aggregate-tell-of c = sym (length-take-le _ _ (within (c .before)))
 
-read-as-requires : tie.Need-read-as-requires
-read-as-requires c κs = search needs
-
-print-listing-requires : tie.Need-print-listing-requires
-print-listing-requires c κs = search needs
-
-slice-aggregate-fail-2 : tie.Need-slice-aggregate-fail-2
-slice-aggregate-fail-2 c = search needs
-
-fail-requires-2 : tie.Need-fail-requires-2
-fail-requires-2 c κs = search needs
+tell-of-requires : tie.Need-tell-of-requires
+tell-of-requires c κs = search needs
 
 returns-2 : tie.Need-returns-2
 returns-2 c = search needs
 
-returns-3 : tie.Need-returns-3
-returns-3 c = search needs
-
-pub list-spec : {M : Type 1} → statement M
-list-spec =
+pub tell-spec : {M : Type 1} → statement M
+tell-spec =
     tie.close
     (tie.spec
     slice-aggregate-fill
@@ -68,10 +56,6 @@ list-spec =
     fail-requires
     returns
     array-share-prefix-bytes
-    slice-aggregate-read-as
-    read-as-requires
-    print-listing-requires
-    slice-aggregate-fail-2
-    fail-requires-2
-    returns-2
-    returns-3)
+    slice-aggregate-tell-of
+    tell-of-requires
+    returns-2)

@@ -1,0 +1,3 @@
+-- The definitions that the contracts of `replay` cite, and what is promised of the order: serializability.
+pub mod Replay
+pub mod Promises
