@@ -1,4 +1,4 @@
--- Laws of whole books, and demands 1 and 2.
+-- Laws of whole books, demands 1 and 2, and what comes back of a written book.
 pub mod ReadLaws
 pub mod ReadingWalksHolds
 pub mod OpeningLaws
@@ -7,6 +7,8 @@ pub mod BehindLaws
 pub mod RunLaws
 pub mod WholeLaws
 pub mod TablesBackLaws
+pub mod SameTablesLaws
+pub mod EventsBackHolds
 pub mod PackingLaws
 pub mod EdgeLaws
 pub mod PlaceLaws

@@ -1,2 +1,3 @@
 -- Laws of the report.
 pub mod RowLaws
+pub mod ReportTellsHolds
