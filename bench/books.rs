@@ -85,11 +85,23 @@ fn ring() -> Vec<u8> {
     book
 }
 
-/// The same book with a commit behind it that is refused by 16. A reading stops at its first refusal, so this one commit is all that a
-/// reading holds of a book full of refused commits, some 32,000; its price is the time of this book less that of the book without it.
+/// The same book with a commit behind it that is refused: its price is the time of this book less that of the book without it.
 fn refused(mut book: Vec<u8>, t: u8) -> Vec<u8> {
     commit(&mut book, t);
     book
+}
+
+/// The same book with refused commits behind it until it is full, some 32,000 of them: each has a line of its own in the listing.
+fn full_of_refused(mut book: Vec<u8>, t: u8) -> Vec<u8> {
+    while book.len() + 2 <= MOST {
+        commit(&mut book, t);
+    }
+    book
+}
+
+/// A transaction that never begins commits 32,765 times; each is refused by 11.
+fn never_begun() -> Vec<u8> {
+    full_of_refused(plain(1, 0), 0)
 }
 
 /// 32 rings: two transactions write each object by turns, 8 times in all. No commit is asked for.
@@ -283,7 +295,9 @@ pub extern "C" fn main(_count: i32, _words: *const *const u8) -> i32 {
         ("listed", listed()),
         ("long-ring", long_ring()),
         ("long-ring-refused", refused(long_ring(), 0)),
+        ("never-begun", never_begun()),
         ("ring", ring()),
+        ("ring-full", full_of_refused(ring(), 0)),
         ("rings", rings()),
         ("rings-refused", refused(rings(), 0)),
         ("sagas", sagas()),

@@ -8,7 +8,7 @@ mod sagalib;
 
 fn listed(book: &[u8]) -> u64 {
     let mut list = [0; sagalib::TRANSACTIONS];
-    sagalib::replay(book, &mut list).length
+    sagalib::replay(book, sagalib::Way::READ_ON, &mut list).count
 }
 
 #[no_mangle]

@@ -18,11 +18,18 @@ extern "C" {
 /* The most bytes that a book has, and so the most fields. */
 #define SAGA_BOOK_BYTES 65536
 
-/* A room of so many bytes holds every line of a listing. */
-#define SAGA_LINE_BYTES 96
+/* A room of so many bytes holds every listing. */
+#define SAGA_LISTING_BYTES 425231
 
 /* The most transactions that a book has: a list of so many numbers holds every order to replay in. */
 #define SAGA_TRANSACTIONS 64
+
+/* The ways of reading a book. SAGA_PERMIT_CIRCLES is added to one of the others. */
+enum saga_way {
+  SAGA_READ_ON = 0,          /* on past refused events: one of them changes nothing, and the next is judged */
+  SAGA_TO_FIRST_REFUSAL = 1, /* to the first refusal, which is then the answer */
+  SAGA_PERMIT_CIRCLES = 2    /* begin dependencies may go round in a circle, as in books from before that was refused */
+};
 
 /* Why something is refused. */
 enum saga_refusal {
@@ -54,9 +61,9 @@ enum saga_refusal {
 /* The answer of every function that can refuse: always the same four numbers. */
 struct saga_answer {
   uint64_t refusal; /* a saga_refusal: 0 if nothing is refused */
-  uint64_t events;  /* how many events of the book are accepted: all of them, or those before the refusal */
+  uint64_t events;  /* how many events of the book are accepted, before the refusal if there is one */
   uint64_t place;   /* where the refusal is: in bytes of the book, or for saga_write in fields; 0 if nothing is refused */
-  uint64_t length;  /* how many bytes, fields or transactions were accepted or written; 0 after a refusal to write */
+  uint64_t count;   /* how many bytes, fields or transactions were written, 0 after a refusal; of saga_read, how many events were passed over */
 };
 
 /* What is to be done for a saga; the numbers are those of the events in a book. */
@@ -69,41 +76,43 @@ struct saga_step {
   uint64_t outstanding; /* how many steps are left, this one counted: 0 when there is no step */
 };
 
-/* Reads a book. The answer is the first refusal, with the events before it and its place; its length is that of the accepted opening, the
-   bytes up to the end of the last accepted event, also where the book is refused. */
-void saga_read(const uint8_t *book, size_t book_size, struct saga_answer *answer);
+/* Reads a book. Reading on, the answer is the refusal that ends the reading (1 to 7 or 21), if there is one; its count is how many events were
+   refused by any other and passed over. To the first refusal, the answer is that, and no event is passed over. */
+void saga_read(const uint8_t *book, size_t book_size, uint64_t way, struct saga_answer *answer);
 
-/* How many bytes the accepted opening of a book has: saga_read's length by itself. A writer that finds its book torn goes on after these. */
+/* Puts the events that were refused and passed over at the front of the list, those before which `skip` others or more come: for each its index, where all
+   events are counted from 0, and then the number of its saga_refusal, so that the k-th has list[2 * k] and list[2 * k + 1]. As many as fit; list_size counts
+   numbers. It returns how many events that are, 0 to the first refusal. What lies behind them in the list stays as it was. */
+uint64_t saga_refused(const uint8_t *book, size_t book_size, uint64_t way, uint64_t skip, uint64_t *list, size_t list_size);
+
+/* How many bytes the accepted opening of a book has: those before the first event that is refused or torn. A writer that finds its book torn goes on
+   after these. */
 uint64_t saga_opening(const uint8_t *book, size_t book_size);
 
-/* How many lines the listing of a book has: at least 1, and 1 if its tables are refused. */
-uint64_t saga_lines(const uint8_t *book, size_t book_size);
-
-/* Puts line k of the listing of a book, counted from 0 and with the line feed that ends it, at the front of the room. The answer's length
-   is how many bytes that is. It is 0 if there is no such line, which is no refusal; 19 is the only refusal here, since every book has a
-   listing, and it leaves the room as it was. What lies behind the line in the room stays as it was. */
-void saga_line(const uint8_t *book, size_t book_size, uint64_t k, uint8_t *room, size_t room_size, struct saga_answer *answer);
+/* Puts the listing of a book at the front of the room; the answer's count is how many bytes it has. 19 is the only refusal here, since every book has a
+   listing, and it leaves the room as it was. What lies behind the listing in the room stays as it was. */
+void saga_listing(const uint8_t *book, size_t book_size, uint64_t way, uint8_t *room, size_t room_size, struct saga_answer *answer);
 
 /* What is to be done next for the saga of an index, counted from 0, after the accepted events of a book. Above 0 outstanding, the step is
    accepted as the next event and leaves one less. An index that is no saga's has nothing to do. */
-void saga_next(const uint8_t *book, size_t book_size, uint64_t saga, struct saga_step *step);
+void saga_next(const uint8_t *book, size_t book_size, uint64_t way, uint64_t saga, struct saga_step *step);
 
 /* How much is left after the accepted events of a book: the sum of what saga_next calls outstanding over all sagas. Taking all closing steps, saga
    after saga, settles every begun saga in as many events. */
-uint64_t saga_left(const uint8_t *book, size_t book_size);
+uint64_t saga_left(const uint8_t *book, size_t book_size, uint64_t way);
 
 /* Puts the transactions that hold a committed operation after the accepted events of a book at the front of the list, in an order in which their committed
    changes can be copied one transaction at a time: where two of them changed the same object, or one read what the other changed, whoever did so first comes
-   first. Among those that could come next the lowest number does. The answer's length is how many there are, 0 if the tables are refused. 19 is the only
+   first. Among those that could come next the lowest number does. The answer's count is how many there are, 0 if the tables are refused. 19 is the only
    refusal here, since every book has an order, and it leaves the list as it was. What lies behind the order in the list stays as it was. */
-void saga_replay(const uint8_t *book, size_t book_size, uint16_t *list, size_t list_size, struct saga_answer *answer);
+void saga_replay(const uint8_t *book, size_t book_size, uint64_t way, uint16_t *list, size_t list_size, struct saga_answer *answer);
 
-/* Puts the fields of a book that is accepted whole at the front of the room; the answer's length is how many there are, never more than the
-   book has bytes. Refusals are those of saga_read, then 19; each leaves the room as it was. What lies behind the fields stays as it was. */
+/* Puts the fields of a book that is accepted whole at the front of the room; the answer's count is how many there are, never more than the
+   book has bytes. Refusals are those of saga_read to the first refusal, then 19; each leaves the room as it was. What lies behind the fields stays as it was. */
 void saga_unpack(const uint8_t *book, size_t book_size, uint16_t *room, size_t room_size, struct saga_answer *answer);
 
-/* Puts the bytes of fields that are a book at the front of the room; the answer's length is how many bytes there are, never more than three
-   for a field. Refusals are those of saga_read with the place counted in fields, then 19; each leaves the room as it was. What lies behind
+/* Puts the bytes of fields that are a book at the front of the room; the answer's count is how many bytes there are, never more than three
+   for a field. Refusals are those of saga_read to the first refusal, with the place counted in fields, then 19; each leaves the room as it was. What lies behind
    the bytes stays as it was. It keeps a book of 64 KiB on the stack. */
 void saga_write(const uint16_t *fields, size_t field_count, uint8_t *room, size_t room_size, struct saga_answer *answer);
 

@@ -9,23 +9,47 @@ compile_error!("libsagalib.a is code for x86-64");
 /// The most bytes that a book has, and so the most fields.
 pub const BOOK_BYTES: usize = 65_536;
 
-/// A room of so many bytes holds every line of a listing.
-pub const LINE_BYTES: usize = 96;
+/// A room of so many bytes holds every listing.
+pub const LISTING_BYTES: usize = 425_231;
 
 /// The most transactions that a book has: a list of so many numbers holds every order to replay in.
 pub const TRANSACTIONS: usize = 64;
+
+/// How a book is read.
+#[derive(Clone, Copy, Debug, PartialEq, Eq)]
+pub struct Way {
+    /// To the first refusal, which is then the answer; otherwise on past refused events: one of them changes nothing, and the next is judged.
+    pub to_first_refusal: bool,
+    /// Begin dependencies may go round in a circle, as in books from before that was refused.
+    pub permit_circles: bool,
+}
+
+impl Way {
+    pub const READ_ON: Way = Way {
+        to_first_refusal: false,
+        permit_circles: false,
+    };
+    pub const TO_FIRST_REFUSAL: Way = Way {
+        to_first_refusal: true,
+        permit_circles: false,
+    };
+
+    fn number(self) -> u64 {
+        u64::from(self.to_first_refusal) + 2 * u64::from(self.permit_circles)
+    }
+}
 
 /// The answer of every function that can refuse: always the same four numbers.
 #[derive(Clone, Copy, Debug, PartialEq, Eq)]
 pub struct Answer {
     /// The refusal's number in the table of refusals; 0 if nothing is refused.
     pub refusal: u64,
-    /// How many events of the book are accepted: all of them, or those before the refusal.
+    /// How many events of the book are accepted, before the refusal if there is one.
     pub events: u64,
     /// Where the refusal is: in bytes of the book, or for `write` in fields; 0 if nothing is refused.
     pub place: u64,
-    /// How many bytes, fields or transactions were accepted or written; 0 after a refusal to write.
-    pub length: u64,
+    /// How many bytes, fields or transactions were written, 0 after a refusal; of `read`, how many events were passed over.
+    pub count: u64,
 }
 
 /// An event that closes a saga, with its transaction.
@@ -48,22 +72,36 @@ mod archive {
     // A slice crosses as a pointer and how many elements it has.
     #[link(name = "sagalib", kind = "static")]
     extern "C" {
-        pub fn saga_read(book: *const u8, book_size: usize, answer: *mut [u64; 4]);
-        pub fn saga_opening(book: *const u8, book_size: usize) -> u64;
-        pub fn saga_lines(book: *const u8, book_size: usize) -> u64;
-        pub fn saga_line(
+        pub fn saga_read(book: *const u8, book_size: usize, way: u64, answer: *mut [u64; 4]);
+        pub fn saga_refused(
             book: *const u8,
             book_size: usize,
-            k: u64,
+            way: u64,
+            skip: u64,
+            list: *mut u64,
+            list_size: usize,
+        ) -> u64;
+        pub fn saga_opening(book: *const u8, book_size: usize) -> u64;
+        pub fn saga_listing(
+            book: *const u8,
+            book_size: usize,
+            way: u64,
             room: *mut u8,
             room_size: usize,
             answer: *mut [u64; 4],
         );
-        pub fn saga_next(book: *const u8, book_size: usize, saga: u64, step: *mut [u64; 3]);
-        pub fn saga_left(book: *const u8, book_size: usize) -> u64;
+        pub fn saga_next(
+            book: *const u8,
+            book_size: usize,
+            way: u64,
+            saga: u64,
+            step: *mut [u64; 3],
+        );
+        pub fn saga_left(book: *const u8, book_size: usize, way: u64) -> u64;
         pub fn saga_replay(
             book: *const u8,
             book_size: usize,
+            way: u64,
             list: *mut u16,
             list_size: usize,
             answer: *mut [u64; 4],
@@ -89,44 +127,53 @@ mod archive {
 // proved. A Rust slice is as many elements as it says, and a mutable one overlaps nothing else. So each call below is sound.
 
 fn answered(numbers: [u64; 4]) -> Answer {
-    let [refusal, events, place, length] = numbers;
+    let [refusal, events, place, count] = numbers;
     Answer {
         refusal,
         events,
         place,
-        length,
+        count,
     }
 }
 
-/// Reads a book: the first refusal, with the events before it and its place. The length is that of the accepted opening, also where the
-/// book is refused.
-pub fn read(book: &[u8]) -> Answer {
+/// Reads a book. Reading on, the answer is the refusal that ends the reading (1 to 7 or 21), if there is one; its count is how many events were
+/// refused by any other and passed over. To the first refusal, the answer is that, and no event is passed over.
+pub fn read(book: &[u8], way: Way) -> Answer {
     let mut answer = [0; 4];
-    unsafe { archive::saga_read(book.as_ptr(), book.len(), &mut answer) };
+    unsafe { archive::saga_read(book.as_ptr(), book.len(), way.number(), &mut answer) };
     answered(answer)
 }
 
-/// The accepted opening of a book: the bytes up to the end of the last accepted event. A writer that finds its book torn goes on after
+/// Puts the events that were refused and passed over at the front of the list, those before which `skip` others or more come: for each its index, where all
+/// events are counted from 0, and then the number of its refusal. As many as fit; the answer is how many events that are, 0 to the first refusal.
+pub fn refused(book: &[u8], way: Way, skip: u64, list: &mut [u64]) -> u64 {
+    unsafe {
+        archive::saga_refused(
+            book.as_ptr(),
+            book.len(),
+            way.number(),
+            skip,
+            list.as_mut_ptr(),
+            list.len(),
+        )
+    }
+}
+
+/// The accepted opening of a book: the bytes before the first event that is refused or torn. A writer that finds its book torn goes on after
 /// these.
 pub fn opening(book: &[u8]) -> &[u8] {
     let size = unsafe { archive::saga_opening(book.as_ptr(), book.len()) };
     &book[..size as usize]
 }
 
-/// How many lines the listing of a book has: at least 1, and 1 if its tables are refused.
-pub fn lines(book: &[u8]) -> u64 {
-    unsafe { archive::saga_lines(book.as_ptr(), book.len()) }
-}
-
-/// Puts line k of the listing of a book, counted from 0 and with the line feed that ends it, at the front of the room. The length is 0 if
-/// there is no such line, which is no refusal; 19 is the only refusal here, since every book has a listing.
-pub fn line(book: &[u8], k: u64, room: &mut [u8]) -> Answer {
+/// Puts the listing of a book at the front of the room. 19 is the only refusal here, since every book has a listing.
+pub fn listing(book: &[u8], way: Way, room: &mut [u8]) -> Answer {
     let mut answer = [0; 4];
     unsafe {
-        archive::saga_line(
+        archive::saga_listing(
             book.as_ptr(),
             book.len(),
-            k,
+            way.number(),
             room.as_mut_ptr(),
             room.len(),
             &mut answer,
@@ -137,9 +184,9 @@ pub fn line(book: &[u8], k: u64, room: &mut [u8]) -> Answer {
 
 /// What is to be done next for the saga of an index, counted from 0, after the accepted events of a book. Above 0 outstanding, the step is
 /// accepted as the next event and leaves one less. An index that is no saga's has nothing to do.
-pub fn next(book: &[u8], saga: u64) -> Step {
+pub fn next(book: &[u8], way: Way, saga: u64) -> Step {
     let mut step = [0; 3];
-    unsafe { archive::saga_next(book.as_ptr(), book.len(), saga, &mut step) };
+    unsafe { archive::saga_next(book.as_ptr(), book.len(), way.number(), saga, &mut step) };
     let [event, transaction, outstanding] = step;
     let event = match event {
         1 => Some(Event::Begin(transaction)),
@@ -152,19 +199,20 @@ pub fn next(book: &[u8], saga: u64) -> Step {
 
 /// How much is left after the accepted events of a book: the sum of what is outstanding over all sagas. Taking all closing steps, saga after saga,
 /// settles every begun saga in as many events.
-pub fn left(book: &[u8]) -> u64 {
-    unsafe { archive::saga_left(book.as_ptr(), book.len()) }
+pub fn left(book: &[u8], way: Way) -> u64 {
+    unsafe { archive::saga_left(book.as_ptr(), book.len(), way.number()) }
 }
 
 /// Puts the transactions that hold a committed operation after the accepted events of a book at the front of the list, in an order in which their
-/// committed changes can be copied one transaction at a time. The length is how many there are, 0 if the tables are refused; 19 is the only refusal here,
+/// committed changes can be copied one transaction at a time. The count is how many there are, 0 if the tables are refused; 19 is the only refusal here,
 /// since every book has an order.
-pub fn replay(book: &[u8], list: &mut [u16]) -> Answer {
+pub fn replay(book: &[u8], way: Way, list: &mut [u16]) -> Answer {
     let mut answer = [0; 4];
     unsafe {
         archive::saga_replay(
             book.as_ptr(),
             book.len(),
+            way.number(),
             list.as_mut_ptr(),
             list.len(),
             &mut answer,
@@ -174,7 +222,7 @@ pub fn replay(book: &[u8], list: &mut [u16]) -> Answer {
 }
 
 /// Puts the fields of a book that is accepted whole at the front of the room. There are never more fields than the book has bytes.
-/// Refusals are those of `read`, then 19.
+/// Refusals are those of `read` to the first refusal, then 19.
 pub fn unpack(book: &[u8], room: &mut [u16]) -> Answer {
     let mut answer = [0; 4];
     unsafe {
@@ -190,7 +238,7 @@ pub fn unpack(book: &[u8], room: &mut [u16]) -> Answer {
 }
 
 /// Puts the bytes of fields that are a book at the front of the room. There are never more than three for a field. Refusals are those of
-/// `read` with the place counted in fields, then 19. It keeps a book of 64 KiB on the stack.
+/// `read` to the first refusal, with the place counted in fields, then 19. It keeps a book of 64 KiB on the stack.
 pub fn write(fields: &[u16], room: &mut [u8]) -> Answer {
     let mut answer = [0; 4];
     unsafe {

@@ -20,15 +20,15 @@ static void check(int line, int holds, const char *what) {
 
 #define CHECK(fact) check(__LINE__, (fact), #fact)
 
-static void check_answer(int line, struct saga_answer a, uint64_t refusal, uint64_t events, uint64_t place, uint64_t length) {
-  if (a.refusal != refusal || a.events != events || a.place != place || a.length != length) {
+static void check_answer(int line, struct saga_answer a, uint64_t refusal, uint64_t events, uint64_t place, uint64_t count) {
+  if (a.refusal != refusal || a.events != events || a.place != place || a.count != count) {
     printf("test.c:%d: answer %llu %llu %llu %llu\n", line, (unsigned long long)a.refusal, (unsigned long long)a.events,
-           (unsigned long long)a.place, (unsigned long long)a.length);
+           (unsigned long long)a.place, (unsigned long long)a.count);
     differences += 1;
   }
 }
 
-#define ANSWER(a, refusal, events, place, length) check_answer(__LINE__, (a), (refusal), (events), (place), (length))
+#define ANSWER(a, refusal, events, place, count) check_answer(__LINE__, (a), (refusal), (events), (place), (count))
 
 static void check_step(int line, struct saga_step s, uint64_t event, uint64_t transaction, uint64_t outstanding) {
   if (s.event != event || s.transaction != transaction || s.outstanding != outstanding) {
@@ -66,15 +66,17 @@ static int fields_untouched(const uint16_t *room, size_t from, size_t to) {
   return 1;
 }
 
-static struct saga_answer read_book(const uint8_t *book, size_t n) {
+static struct saga_answer read_in_way(const uint8_t *book, size_t n, uint64_t way) {
   struct saga_answer answer = no_answer;
-  saga_read(book, n, &answer);
+  saga_read(book, n, way, &answer);
   return answer;
 }
 
+static struct saga_answer read_book(const uint8_t *book, size_t n) { return read_in_way(book, n, SAGA_READ_ON); }
+
 static struct saga_step next_step(const uint8_t *book, size_t n, uint64_t saga) {
   struct saga_step step = no_step;
-  saga_next(book, n, saga, &step);
+  saga_next(book, n, SAGA_READ_ON, saga, &step);
   return step;
 }
 
@@ -83,9 +85,8 @@ static uint8_t listed[32] = {0x01, 0x01, 0x02, 0x01, 0x01, 0x00, 0x01, 0x00, 0x0
                              0x04, 0x01, 0x00, 0x01, 0x05, 0x01, 0x04, 0x00, 0x02, 0x01, 0x03, 0x00};
 static const size_t listed_size = 24;
 
-static const char *const listing[] = {"book accepted 7\n", "t 0 aborted\n",          "t 1 committed\n", "t 2 idle\n", "t 3 idle\n",
-                                      "t 4 active\n",      "op 0 0 write 4 active\n", "saga 0 2 begin 3\n"};
-static const size_t listing_lines = sizeof listing / sizeof listing[0];
+#define TRANSACTIONS_AND_OPERATION "t 0 aborted\nt 1 committed\nt 2 idle\nt 3 idle\nt 4 active\nop 0 0 write 4 active\n"
+#define LATER_LINES TRANSACTIONS_AND_OPERATION "saga 0 2 begin 3\n"
 
 static size_t text_size(const char *text) {
   size_t n = 0;
@@ -93,53 +94,33 @@ static size_t text_size(const char *text) {
   return n;
 }
 
-/* Line k of the listing of a book is this text: in a large room, in one that just holds it, and not in one that is a byte too small. */
-static void check_line(int at, const uint8_t *book, size_t n, uint64_t k, const char *text, uint64_t events) {
-  uint8_t room[SAGA_LINE_BYTES];
+/* The listing of a book is this text: in a large room, in one that just holds it, and not in one that is a byte too small. */
+static void check_listing(int at, const uint8_t *book, size_t n, uint64_t way, const char *text, uint64_t events) {
+  static uint8_t room[SAGA_LISTING_BYTES];
   size_t size = text_size(text);
+  size_t rooms[] = {sizeof room, size};
+  for (size_t i = 0; i < 2; i++) {
+    struct saga_answer answer = no_answer;
+    fill_bytes(room, sizeof room);
+    saga_listing(book, n, way, room, rooms[i], &answer);
+    check_answer(at, answer, 0, events, 0, size);
+    check(at, memcmp(room, text, size) == 0, text);
+    check(at, bytes_untouched(room, size, sizeof room), "behind the listing");
+  }
 
   struct saga_answer answer = no_answer;
   fill_bytes(room, sizeof room);
-  saga_line(book, n, k, room, sizeof room, &answer);
-  check_answer(at, answer, 0, events, 0, size);
-  check(at, memcmp(room, text, size) == 0, text);
-  check(at, bytes_untouched(room, size, sizeof room), "behind the line");
-
-  answer = no_answer;
-  fill_bytes(room, sizeof room);
-  saga_line(book, n, k, room, size, &answer);
-  check_answer(at, answer, 0, events, 0, size);
-  check(at, memcmp(room, text, size) == 0, text);
-  check(at, bytes_untouched(room, size, sizeof room), "behind the room");
-
-  answer = no_answer;
-  fill_bytes(room, sizeof room);
-  saga_line(book, n, k, room, size - 1, &answer);
+  saga_listing(book, n, way, room, size - 1, &answer);
   check_answer(at, answer, SAGA_NO_ROOM, events, 0, 0);
   check(at, bytes_untouched(room, 0, sizeof room), "a room that is too small");
 }
 
-/* There is no line k: nothing is written, whatever the room, and nothing is refused. */
-static void check_no_line(int at, const uint8_t *book, size_t n, uint64_t k, uint64_t events) {
-  uint8_t room[SAGA_LINE_BYTES];
-  struct saga_answer answer = no_answer;
-  fill_bytes(room, sizeof room);
-  saga_line(book, n, k, room, sizeof room, &answer);
-  check_answer(at, answer, 0, events, 0, 0);
-  check(at, bytes_untouched(room, 0, sizeof room), "a line that is not there");
-
-  answer = no_answer;
-  saga_line(book, n, k, room, 0, &answer);
-  check_answer(at, answer, 0, events, 0, 0);
-}
+#define LISTING(book, n, way, text, events) check_listing(__LINE__, (book), (n), (way), (text), (events))
 
 static void the_listing(void) {
-  ANSWER(read_book(listed, listed_size), 0, 7, 0, 24);
+  ANSWER(read_book(listed, listed_size), 0, 7, 0, 0);
   CHECK(saga_opening(listed, listed_size) == 24);
-  CHECK(saga_lines(listed, listed_size) == listing_lines);
-  for (size_t k = 0; k < listing_lines; k++) check_line(__LINE__, listed, listed_size, k, listing[k], 7);
-  check_no_line(__LINE__, listed, listed_size, listing_lines, 7);
-  check_no_line(__LINE__, listed, listed_size, UINT64_MAX, 7);
+  for (uint64_t way = 0; way < 4; way++) LISTING(listed, listed_size, way, "book accepted 7\n" LATER_LINES, 7);
 
   STEP(next_step(listed, listed_size, 0), SAGA_BEGIN, 3, 2);
   STEP(next_step(listed, listed_size, 1), SAGA_NONE, 0, 0);
@@ -152,18 +133,17 @@ static void after_the_listing(void) {
   uint8_t book[32];
   memcpy(book, listed, listed_size);
   memcpy(book + 24, "\x01\x03\x02\x03", 4);
-  ANSWER(read_book(book, 26), 0, 8, 0, 26);
+  ANSWER(read_book(book, 26), 0, 8, 0, 0);
   STEP(next_step(book, 26, 0), SAGA_COMMIT, 3, 1);
-  ANSWER(read_book(book, 28), 0, 9, 0, 28);
+  ANSWER(read_book(book, 28), 0, 9, 0, 0);
   STEP(next_step(book, 28, 0), SAGA_NONE, 0, 0);
-  check_line(__LINE__, book, 28, 7, "saga 0 0 none\n", 9);
 
   book[25] = 0x02;
-  ANSWER(read_book(book, 26), SAGA_SAGA_RULE, 7, 24, 24);
+  ANSWER(read_in_way(book, 26, SAGA_TO_FIRST_REFUSAL), SAGA_SAGA_RULE, 7, 24, 0);
+  ANSWER(read_book(book, 26), 0, 7, 0, 1);
   CHECK(saga_opening(book, 26) == 24);
-  CHECK(saga_lines(book, 26) == listing_lines);
-  check_line(__LINE__, book, 26, 0, "book refused 13 7 24\n", 7);
-  check_line(__LINE__, book, 26, 7, "saga 0 2 begin 3\n", 7);
+  LISTING(book, 26, SAGA_TO_FIRST_REFUSAL, "book refused 13 7 24\n" LATER_LINES, 7);
+  LISTING(book, 26, SAGA_READ_ON, "book accepted 7\nno 7 13\n" LATER_LINES, 7);
   STEP(next_step(book, 26, 0), SAGA_BEGIN, 3, 2);
 
   uint16_t fields[32];
@@ -174,32 +154,90 @@ static void after_the_listing(void) {
   CHECK(fields_untouched(fields, 0, 32));
 }
 
+/* Refused events in the middle: the undo is begun twice, the second step begun, and the undo committed all the same. */
+static void read_on(void) {
+  uint8_t book[32];
+  memcpy(book, listed, listed_size);
+  memcpy(book + 24, "\x01\x03\x01\x03\x01\x02\x02\x03", 8);
+  ANSWER(read_book(book, 32), 0, 9, 0, 2);
+  ANSWER(read_in_way(book, 32, SAGA_TO_FIRST_REFUSAL), SAGA_NOT_IDLE, 8, 26, 0);
+  CHECK(saga_opening(book, 32) == 26);
+  LISTING(book, 32, SAGA_READ_ON,
+          "book accepted 9\nno 8 10\nno 9 13\nt 0 aborted\nt 1 committed\nt 2 idle\nt 3 committed\nt 4 active\n"
+          "op 0 0 write 4 active\nsaga 0 0 none\n",
+          9);
+  STEP(next_step(book, 32, 0), SAGA_NONE, 0, 0);
+  CHECK(saga_left(book, 32, SAGA_READ_ON) == 0);
+  CHECK(saga_left(book, 32, SAGA_TO_FIRST_REFUSAL) == 1);
+
+  /* then torn: what was passed over before is told all the same */
+  ANSWER(read_book(book, 31), SAGA_TORN, 8, 31, 2);
+  CHECK(saga_opening(book, 31) == 26);
+}
+
+static const uint64_t number_pattern = 0xA5C3A5C3A5C3A5C3;
+
+/* The refused events of this book of two plain transactions, which nobody begins: 0 commits at 0, 1 commits at 1, 0 reads object 0 at 2. From the one on that so
+   many others come before, this many fit a list of so many numbers. */
+static void check_refused(int at, uint64_t way, uint64_t skip, size_t size, size_t n) {
+  static const uint8_t book[] = {0x01, 0x00, 0x02, 0x00, 0x00, 0x02, 0x00, 0x02, 0x01, 0x04, 0x00, 0x00, 0x00};
+  static const uint64_t all[] = {0, SAGA_NOT_ACTIVE, 1, SAGA_NOT_ACTIVE, 2, SAGA_NOT_IN_TABLES};
+  uint64_t list[8];
+  for (size_t i = 0; i < 8; i++) list[i] = number_pattern;
+  check(at, saga_refused(book, sizeof book, way, skip, list, size) == n, "how many refused events");
+  for (size_t i = 0; i < 2 * n; i++) check(at, list[i] == all[2 * skip + i], "a refused event");
+  for (size_t i = 2 * n; i < 8; i++) check(at, list[i] == number_pattern, "behind the refused events");
+}
+
+static void refused_events(void) {
+  check_refused(__LINE__, SAGA_READ_ON, 0, 8, 3);
+  check_refused(__LINE__, SAGA_READ_ON + SAGA_PERMIT_CIRCLES, 0, 6, 3);
+  check_refused(__LINE__, SAGA_READ_ON, 0, 5, 2);
+  check_refused(__LINE__, SAGA_READ_ON, 1, 8, 2);
+  check_refused(__LINE__, SAGA_READ_ON, 2, 2, 1);
+  check_refused(__LINE__, SAGA_READ_ON, 3, 8, 0);
+  check_refused(__LINE__, SAGA_READ_ON, UINT64_MAX, 8, 0);
+  check_refused(__LINE__, SAGA_READ_ON, 0, 1, 0);
+  check_refused(__LINE__, SAGA_READ_ON, 0, 0, 0);
+  check_refused(__LINE__, SAGA_TO_FIRST_REFUSAL, 0, 8, 0);
+  check_refused(__LINE__, SAGA_TO_FIRST_REFUSAL + SAGA_PERMIT_CIRCLES, 0, 8, 0);
+}
+
+/* Each of two transactions declares that it begins on the commit of the other: such tables are refused, unless circles are permitted. Then neither begins. */
+static void circles(void) {
+  static const uint8_t book[] = {0x01, 0x00, 0x02, 0x00, 0x02, 0x00, 0x01, 0x06, 0x01, 0x00, 0x06, 0x01, 0x00};
+  ANSWER(read_book(book, sizeof book), SAGA_NEVER_MOVES, 0, 4, 0);
+  LISTING(book, sizeof book, SAGA_READ_ON, "book refused 21 0 4\n", 0);
+  LISTING(book, sizeof book, SAGA_TO_FIRST_REFUSAL, "book refused 21 0 4\n", 0);
+  ANSWER(read_in_way(book, sizeof book, SAGA_READ_ON + SAGA_PERMIT_CIRCLES), 0, 0, 0, 1);
+  ANSWER(read_in_way(book, sizeof book, SAGA_TO_FIRST_REFUSAL + SAGA_PERMIT_CIRCLES), SAGA_DEPENDENCY_RULE, 0, 11, 0);
+  LISTING(book, sizeof book, SAGA_READ_ON + SAGA_PERMIT_CIRCLES, "book accepted 0\nno 0 14\nt 0 idle\nt 1 idle\n", 0);
+  LISTING(book, sizeof book, SAGA_TO_FIRST_REFUSAL + SAGA_PERMIT_CIRCLES, "book refused 14 0 11\nt 0 idle\nt 1 idle\n", 0);
+}
+
 static void empty_and_torn(void) {
   ANSWER(read_book(listed, 0), SAGA_TORN, 0, 0, 0);
   CHECK(saga_opening(listed, 0) == 0);
-  CHECK(saga_lines(listed, 0) == 1);
-  check_line(__LINE__, listed, 0, 0, "book refused 2 0 0\n", 0);
-  check_no_line(__LINE__, listed, 0, 1, 0);
+  for (uint64_t way = 0; way < 4; way++) LISTING(listed, 0, way, "book refused 2 0 0\n", 0);
   STEP(next_step(listed, 0, 0), SAGA_NONE, 0, 0);
 
   /* torn before the transaction of the last event: the saga is still active */
-  ANSWER(read_book(listed, 23), SAGA_TORN, 6, 23, 22);
+  ANSWER(read_book(listed, 23), SAGA_TORN, 6, 23, 0);
   CHECK(saga_opening(listed, 23) == 22);
-  check_line(__LINE__, listed, 23, 0, "book refused 2 6 23\n", 6);
-  check_line(__LINE__, listed, 23, 1, "t 0 active\n", 6);
+  LISTING(listed, 23, SAGA_READ_ON,
+          "book refused 2 6 23\nt 0 active\nt 1 committed\nt 2 idle\nt 3 idle\nt 4 active\nop 0 0 write 4 active\nsaga 0 3 abort 0\n", 6);
   STEP(next_step(listed, 23, 0), SAGA_ABORT, 0, 3);
 
   /* torn inside a number */
   uint8_t book[32];
   memcpy(book, listed, listed_size);
   memcpy(book + 24, "\x01\x80", 2);
-  ANSWER(read_book(book, 26), SAGA_TORN, 7, 25, 24);
+  ANSWER(read_book(book, 26), SAGA_TORN, 7, 25, 0);
 
   /* torn tables */
   ANSWER(read_book(listed, 4), SAGA_TORN, 0, 4, 0);
   CHECK(saga_opening(listed, 4) == 0);
-  CHECK(saga_lines(listed, 4) == 1);
-  CHECK(saga_left(listed, 4) == 0);
+  CHECK(saga_left(listed, 4, SAGA_READ_ON) == 0);
 
   uint16_t fields[32];
   struct saga_answer answer = no_answer;
@@ -226,10 +264,10 @@ static void closed_step_by_step(void) {
     n += 2;
     left -= 1;
     events += 1;
-    ANSWER(read_book(book, n), 0, events, 0, n);
+    ANSWER(read_book(book, n), 0, events, 0, 0);
     step = next_step(book, n, 0);
     CHECK(step.outstanding == left);
-    CHECK(saga_left(book, n) == left);
+    CHECK(saga_left(book, n, SAGA_READ_ON) == left);
   }
   STEP(step, SAGA_NONE, 0, 0);
 }
@@ -246,7 +284,7 @@ static void check_order(int at, size_t size, uint64_t events, size_t n) {
   for (size_t i = 0; i < 2; i++) {
     struct saga_answer answer = no_answer;
     fill_fields(list, SAGA_TRANSACTIONS);
-    saga_replay(replayed, size, list, rooms[i], &answer);
+    saga_replay(replayed, size, SAGA_READ_ON, list, rooms[i], &answer);
     check_answer(at, answer, 0, events, 0, n);
     check(at, memcmp(list, order, n * sizeof list[0]) == 0, "the order");
     check(at, fields_untouched(list, n, SAGA_TRANSACTIONS), "behind the order");
@@ -254,14 +292,14 @@ static void check_order(int at, size_t size, uint64_t events, size_t n) {
   for (size_t room = 0; room < n; room++) {
     struct saga_answer answer = no_answer;
     fill_fields(list, SAGA_TRANSACTIONS);
-    saga_replay(replayed, size, list, room, &answer);
+    saga_replay(replayed, size, SAGA_READ_ON, list, room, &answer);
     check_answer(at, answer, SAGA_NO_ROOM, events, 0, 0);
     check(at, fields_untouched(list, 0, SAGA_TRANSACTIONS), "a list that is too short");
   }
 }
 
 static void replayed_in_order(void) {
-  ANSWER(read_book(replayed, 30), 0, 9, 0, 30);
+  ANSWER(read_book(replayed, 30), 0, 9, 0, 0);
   check_order(__LINE__, 30, 9, 3);
   /* torn: of the accepted opening; refused tables: nobody, whatever the list */
   check_order(__LINE__, 29, 8, 2);
@@ -323,7 +361,8 @@ static void unpacked_and_written(void) {
   saga_write(torn, 7, room, 32, &answer);
   ANSWER(answer, SAGA_TORN, 0, 7, 0);
   CHECK(bytes_untouched(room, 0, 32));
-  ANSWER(read_book(torn_bytes, 8), SAGA_TORN, 0, 8, 5);
+  ANSWER(read_book(torn_bytes, 8), SAGA_TORN, 0, 8, 0);
+  CHECK(saga_opening(torn_bytes, 8) == 5);
 }
 
 /* A book of 65,536 bytes: two plain transactions hand one operation to and fro. With one byte more it is too long. */
@@ -337,8 +376,9 @@ static void long_books(void) {
   for (size_t i = sizeof start; i < SAGA_BOOK_BYTES; i += 8) {
     memcpy(longest + i, "\x05\x00\x01\x00\x05\x01\x00\x00", 8);
   }
-  ANSWER(read_book(longest, SAGA_BOOK_BYTES), 0, 16383, 0, SAGA_BOOK_BYTES);
-  CHECK(saga_lines(longest, SAGA_BOOK_BYTES) == 4);
+  ANSWER(read_book(longest, SAGA_BOOK_BYTES), 0, 16383, 0, 0);
+  CHECK(saga_opening(longest, SAGA_BOOK_BYTES) == SAGA_BOOK_BYTES);
+  LISTING(longest, SAGA_BOOK_BYTES, SAGA_READ_ON, "book accepted 16383\nt 0 active\nt 1 active\nop 0 0 write 0 active\n", 16383);
 
   struct saga_answer answer = no_answer;
   fill_fields(fields_back, SAGA_BOOK_BYTES + 1);
@@ -355,8 +395,7 @@ static void long_books(void) {
   /* a byte too long, whatever it is */
   ANSWER(read_book(longest, SAGA_BOOK_BYTES + 1), SAGA_TOO_LONG, 0, 0, 0);
   CHECK(saga_opening(longest, SAGA_BOOK_BYTES + 1) == 0);
-  CHECK(saga_lines(longest, SAGA_BOOK_BYTES + 1) == 1);
-  check_line(__LINE__, longest, SAGA_BOOK_BYTES + 1, 0, "book refused 1 0 0\n", 0);
+  LISTING(longest, SAGA_BOOK_BYTES + 1, SAGA_READ_ON, "book refused 1 0 0\n", 0);
   STEP(next_step(longest, SAGA_BOOK_BYTES + 1, 0), SAGA_NONE, 0, 0);
   answer = no_answer;
   fill_fields(fields_back, SAGA_BOOK_BYTES + 1);
@@ -374,6 +413,9 @@ static void long_books(void) {
 int main(void) {
   the_listing();
   after_the_listing();
+  read_on();
+  refused_events();
+  circles();
   empty_and_torn();
   closed_step_by_step();
   replayed_in_order();

@@ -6,12 +6,25 @@
 mod sagalib;
 
 use sagalib::{
-    left, line, lines, next, opening, read, replay, unpack, write, Answer, Event, Step, BOOK_BYTES,
-    LINE_BYTES, TRANSACTIONS,
+    left, listing, next, opening, read, refused, replay, unpack, write, Answer, Event, Step, Way,
+    BOOK_BYTES, LISTING_BYTES, TRANSACTIONS,
 };
+
+const ON: Way = Way::READ_ON;
+const TO_FIRST: Way = Way::TO_FIRST_REFUSAL;
+const ON_WITH_CIRCLES: Way = Way {
+    permit_circles: true,
+    ..ON
+};
+const TO_FIRST_WITH_CIRCLES: Way = Way {
+    permit_circles: true,
+    ..TO_FIRST
+};
+const WAYS: [Way; 4] = [ON, TO_FIRST, ON_WITH_CIRCLES, TO_FIRST_WITH_CIRCLES];
 
 const BYTE: u8 = 0xA5;
 const FIELD: u16 = 0xA5C3;
+const NUMBER: u64 = 0xA5C3_A5C3_A5C3_A5C3;
 
 /// The listing's book.
 const LISTED: [u8; 24] = [
@@ -19,28 +32,21 @@ const LISTED: [u8; 24] = [
     0x05, 0x01, 0x04, 0x00, 0x02, 0x01, 0x03, 0x00,
 ];
 
-const LISTING: [&str; 8] = [
-    "book accepted 7\n",
-    "t 0 aborted\n",
-    "t 1 committed\n",
-    "t 2 idle\n",
-    "t 3 idle\n",
-    "t 4 active\n",
-    "op 0 0 write 4 active\n",
-    "saga 0 2 begin 3\n",
-];
+/// The lines of its listing behind the first, each with a line feed.
+const LATER_LINES: &str =
+    "t 0 aborted\nt 1 committed\nt 2 idle\nt 3 idle\nt 4 active\nop 0 0 write 4 active\nsaga 0 2 begin 3\n";
 
 const NOTHING: Step = Step {
     event: None,
     outstanding: 0,
 };
 
-fn answer(refusal: u64, events: u64, place: u64, length: u64) -> Answer {
+fn answer(refusal: u64, events: u64, place: u64, count: u64) -> Answer {
     Answer {
         refusal,
         events,
         place,
-        length,
+        count,
     }
 }
 
@@ -56,35 +62,21 @@ fn listed_then(more: &[u8]) -> Vec<u8> {
     [&LISTED[..], more].concat()
 }
 
-/// Line k is this text: in a large room, in one that just holds it, and not in one that is a byte too small.
-fn has_line(book: &[u8], k: u64, text: &str, events: u64) {
+/// The listing is this text: in a large room, in one that just holds it, and not in one that is a byte too small.
+fn has_listing(book: &[u8], way: Way, text: &str, events: u64) {
     let size = text.len();
-    let written = answer(0, events, 0, size as u64);
-
-    let mut room = [BYTE; LINE_BYTES];
-    assert_eq!(line(book, k, &mut room), written);
-    assert_eq!(&room[..size], text.as_bytes());
-    assert!(room[size..].iter().all(|b| *b == BYTE));
-
-    let mut room = [BYTE; LINE_BYTES];
-    assert_eq!(line(book, k, &mut room[..size]), written);
-    assert_eq!(&room[..size], text.as_bytes());
-    assert!(room[size..].iter().all(|b| *b == BYTE));
-
-    let mut room = [BYTE; LINE_BYTES];
-    assert_eq!(
-        line(book, k, &mut room[..size - 1]),
-        answer(19, events, 0, 0)
-    );
-    assert_eq!(room, [BYTE; LINE_BYTES]);
-}
-
-/// There is no line k: nothing is written, whatever the room, and nothing is refused.
-fn has_no_line(book: &[u8], k: u64, events: u64) {
-    let mut room = [BYTE; LINE_BYTES];
-    assert_eq!(line(book, k, &mut room), answer(0, events, 0, 0));
-    assert_eq!(line(book, k, &mut []), answer(0, events, 0, 0));
-    assert_eq!(room, [BYTE; LINE_BYTES]);
+    for fits in [LISTING_BYTES, size] {
+        let mut room = vec![BYTE; LISTING_BYTES];
+        assert_eq!(
+            listing(book, way, &mut room[..fits]),
+            answer(0, events, 0, size as u64)
+        );
+        assert_eq!(&room[..size], text.as_bytes());
+        assert!(room[size..].iter().all(|b| *b == BYTE));
+    }
+    let mut room = vec![BYTE; size - 1];
+    assert_eq!(listing(book, way, &mut room), answer(19, events, 0, 0));
+    assert!(room.iter().all(|b| *b == BYTE));
 }
 
 /// A book cannot be unpacked, and the room is left as it was.
@@ -106,7 +98,7 @@ fn goes_and_comes_back(book: &[u8], events: u64) {
     let size = book.len();
     let mut fields = vec![FIELD; size + 8];
     let unpacked = unpack(book, &mut fields);
-    let count = unpacked.length as usize;
+    let count = unpacked.count as usize;
     assert_eq!(unpacked, answer(0, events, 0, count as u64));
     assert!(count <= size);
     assert!(fields[count..].iter().all(|f| *f == FIELD));
@@ -132,18 +124,20 @@ fn goes_and_comes_back(book: &[u8], events: u64) {
 }
 
 fn the_listing() {
-    assert_eq!(read(&LISTED), answer(0, 7, 0, 24));
+    assert_eq!(read(&LISTED, ON), answer(0, 7, 0, 0));
     assert_eq!(opening(&LISTED), LISTED);
-    assert_eq!(lines(&LISTED), 8);
-    for (k, text) in LISTING.iter().enumerate() {
-        has_line(&LISTED, k as u64, text, 7);
+    for way in WAYS {
+        has_listing(
+            &LISTED,
+            way,
+            &["book accepted 7\n", LATER_LINES].concat(),
+            7,
+        );
     }
-    has_no_line(&LISTED, 8, 7);
-    has_no_line(&LISTED, u64::MAX, 7);
 
-    assert_eq!(next(&LISTED, 0), step(Event::Begin(3), 2));
+    assert_eq!(next(&LISTED, ON, 0), step(Event::Begin(3), 2));
     for saga in [1, 15, 16, 17, u64::MAX] {
-        assert_eq!(next(&LISTED, saga), NOTHING);
+        assert_eq!(next(&LISTED, ON, saga), NOTHING);
     }
     goes_and_comes_back(&LISTED, 7);
 }
@@ -151,52 +145,144 @@ fn the_listing() {
 /// P5: the undo is begun and committed. P6: the second step instead.
 fn after_the_listing() {
     let begun = listed_then(&[0x01, 0x03]);
-    assert_eq!(read(&begun), answer(0, 8, 0, 26));
-    assert_eq!(next(&begun, 0), step(Event::Commit(3), 1));
+    assert_eq!(read(&begun, ON), answer(0, 8, 0, 0));
+    assert_eq!(next(&begun, ON, 0), step(Event::Commit(3), 1));
 
     let p5 = listed_then(&[0x01, 0x03, 0x02, 0x03]);
-    assert_eq!(read(&p5), answer(0, 9, 0, 28));
-    assert_eq!(next(&p5, 0), NOTHING);
-    has_line(&p5, 7, "saga 0 0 none\n", 9);
+    assert_eq!(read(&p5, ON), answer(0, 9, 0, 0));
+    assert_eq!(next(&p5, ON, 0), NOTHING);
     goes_and_comes_back(&p5, 9);
 
     let p6 = listed_then(&[0x01, 0x02]);
-    assert_eq!(read(&p6), answer(13, 7, 24, 24));
+    assert_eq!(read(&p6, ON), answer(0, 7, 0, 1));
+    assert_eq!(read(&p6, TO_FIRST), answer(13, 7, 24, 0));
     assert_eq!(opening(&p6), LISTED);
-    assert_eq!(lines(&p6), 8);
-    has_line(&p6, 0, "book refused 13 7 24\n", 7);
-    has_line(&p6, 7, "saga 0 2 begin 3\n", 7);
-    assert_eq!(next(&p6, 0), step(Event::Begin(3), 2));
+    has_listing(
+        &p6,
+        ON,
+        &["book accepted 7\nno 7 13\n", LATER_LINES].concat(),
+        7,
+    );
+    has_listing(
+        &p6,
+        TO_FIRST,
+        &["book refused 13 7 24\n", LATER_LINES].concat(),
+        7,
+    );
+    assert_eq!(next(&p6, ON, 0), step(Event::Begin(3), 2));
     is_not_unpacked(&p6, answer(13, 7, 24, 0));
     let fields: Vec<u16> = p6.iter().map(|b| u16::from(*b)).collect();
     is_not_written(&fields, answer(13, 7, 24, 0));
 }
 
+/// Refused events in the middle: the undo is begun twice, the second step begun, and the undo committed all the same.
+fn read_on() {
+    let book = listed_then(&[0x01, 0x03, 0x01, 0x03, 0x01, 0x02, 0x02, 0x03]);
+    assert_eq!(read(&book, ON), answer(0, 9, 0, 2));
+    assert_eq!(read(&book, TO_FIRST), answer(10, 8, 26, 0));
+    assert_eq!(opening(&book), &book[..26]);
+    has_listing(
+        &book,
+        ON,
+        "book accepted 9\nno 8 10\nno 9 13\nt 0 aborted\nt 1 committed\nt 2 idle\nt 3 committed\nt 4 active\n\
+         op 0 0 write 4 active\nsaga 0 0 none\n",
+        9,
+    );
+    assert_eq!(next(&book, ON, 0), NOTHING);
+    assert_eq!(next(&book, TO_FIRST, 0), step(Event::Commit(3), 1));
+    assert_eq!(left(&book, ON), 0);
+    assert_eq!(left(&book, TO_FIRST), 1);
+
+    // then torn: what was passed over before is told all the same
+    assert_eq!(read(&book[..31], ON), answer(2, 8, 31, 2));
+}
+
+/// Nobody begins: 0 commits, 1 commits, 0 reads an object that is not there.
+const REFUSED: [u8; 13] = [
+    0x01, 0x00, 0x02, 0x00, 0x00, 0x02, 0x00, 0x02, 0x01, 0x04, 0x00, 0x00, 0x00,
+];
+
+/// The refused events from the one on that so many others come before, index and number each, in a list of so many numbers.
+fn has_refused(way: Way, skip: u64, size: usize, numbers: &[u64]) {
+    let n = numbers.len();
+    let mut list = [NUMBER; 8];
+    assert_eq!(
+        refused(&REFUSED, way, skip, &mut list[..size]),
+        n as u64 / 2
+    );
+    assert_eq!(&list[..n], numbers);
+    assert!(list[n..].iter().all(|x| *x == NUMBER));
+}
+
+fn refused_events() {
+    let all = [0, 11, 1, 11, 2, 8];
+    has_refused(ON, 0, 8, &all);
+    has_refused(ON_WITH_CIRCLES, 0, 6, &all);
+    has_refused(ON, 0, 5, &all[..4]);
+    has_refused(ON, 1, 8, &all[2..]);
+    has_refused(ON, 2, 2, &all[4..]);
+    for (skip, size) in [(3, 8), (u64::MAX, 8), (0, 1), (0, 0)] {
+        has_refused(ON, skip, size, &[]);
+    }
+    has_refused(TO_FIRST, 0, 8, &[]);
+    has_refused(TO_FIRST_WITH_CIRCLES, 0, 8, &[]);
+}
+
+/// Each of two transactions declares that it begins on the commit of the other: such tables are refused, unless circles are permitted. Then
+/// neither begins.
+fn circles() {
+    let book = [
+        0x01, 0x00, 0x02, 0x00, 0x02, 0x00, 0x01, 0x06, 0x01, 0x00, 0x06, 0x01, 0x00,
+    ];
+    for way in [ON, TO_FIRST] {
+        assert_eq!(read(&book, way), answer(21, 0, 4, 0));
+        has_listing(&book, way, "book refused 21 0 4\n", 0);
+    }
+    assert_eq!(read(&book, ON_WITH_CIRCLES), answer(0, 0, 0, 1));
+    has_listing(
+        &book,
+        ON_WITH_CIRCLES,
+        "book accepted 0\nno 0 14\nt 0 idle\nt 1 idle\n",
+        0,
+    );
+    assert_eq!(read(&book, TO_FIRST_WITH_CIRCLES), answer(14, 0, 11, 0));
+    has_listing(
+        &book,
+        TO_FIRST_WITH_CIRCLES,
+        "book refused 14 0 11\nt 0 idle\nt 1 idle\n",
+        0,
+    );
+}
+
 fn empty_and_torn() {
-    assert_eq!(read(&[]), answer(2, 0, 0, 0));
+    assert_eq!(read(&[], ON), answer(2, 0, 0, 0));
     assert_eq!(opening(&[]), []);
-    assert_eq!(lines(&[]), 1);
-    has_line(&[], 0, "book refused 2 0 0\n", 0);
-    has_no_line(&[], 1, 0);
-    assert_eq!(next(&[], 0), NOTHING);
+    for way in WAYS {
+        has_listing(&[], way, "book refused 2 0 0\n", 0);
+    }
+    assert_eq!(next(&[], ON, 0), NOTHING);
     is_not_unpacked(&[], answer(2, 0, 0, 0));
     is_not_written(&[], answer(2, 0, 0, 0));
 
     // before the transaction of the last event: the saga is still active
     let torn = &LISTED[..23];
-    assert_eq!(read(torn), answer(2, 6, 23, 22));
+    assert_eq!(read(torn, ON), answer(2, 6, 23, 0));
     assert_eq!(opening(torn), &LISTED[..22]);
-    has_line(torn, 0, "book refused 2 6 23\n", 6);
-    has_line(torn, 1, "t 0 active\n", 6);
-    assert_eq!(next(torn, 0), step(Event::Abort(0), 3));
+    has_listing(
+        torn,
+        ON,
+        "book refused 2 6 23\nt 0 active\nt 1 committed\nt 2 idle\nt 3 idle\nt 4 active\nop 0 0 write 4 active\n\
+         saga 0 3 abort 0\n",
+        6,
+    );
+    assert_eq!(next(torn, ON, 0), step(Event::Abort(0), 3));
     is_not_unpacked(torn, answer(2, 6, 23, 0));
 
     // inside a number, and in the tables
-    assert_eq!(read(&listed_then(&[0x01, 0x80])), answer(2, 7, 25, 24));
-    assert_eq!(read(&LISTED[..4]), answer(2, 0, 4, 0));
+    assert_eq!(read(&listed_then(&[0x01, 0x80]), ON), answer(2, 7, 25, 0));
+    assert_eq!(read(&LISTED[..4], ON), answer(2, 0, 4, 0));
     assert_eq!(opening(&LISTED[..4]), []);
-    assert_eq!(lines(&LISTED[..4]), 1);
-    assert_eq!(left(&LISTED[..4]), 0);
+    assert_eq!(left(&LISTED[..4], ON), 0);
 }
 
 /// Taking the closing step again and again settles the saga of a torn book: each is accepted, and leaves one less.
@@ -204,9 +290,9 @@ fn closed_step_by_step() {
     let mut book = opening(&LISTED[..23]).to_vec();
     let mut events = 6;
     for owed in [3, 2, 1] {
-        let next = next(&book, 0);
+        let next = next(&book, ON, 0);
         assert_eq!(next.outstanding, owed);
-        assert_eq!(left(&book), owed);
+        assert_eq!(left(&book, ON), owed);
         match next.event {
             Some(Event::Begin(t)) => book.extend_from_slice(&[1, t as u8]),
             Some(Event::Commit(t)) => book.extend_from_slice(&[2, t as u8]),
@@ -214,10 +300,10 @@ fn closed_step_by_step() {
             None => panic!("no closing step"),
         }
         events += 1;
-        assert_eq!(read(&book), answer(0, events, 0, book.len() as u64));
+        assert_eq!(read(&book, ON), answer(0, events, 0, 0));
     }
-    assert_eq!(next(&book, 0), NOTHING);
-    assert_eq!(left(&book), 0);
+    assert_eq!(next(&book, ON, 0), NOTHING);
+    assert_eq!(left(&book, ON), 0);
 }
 
 /// Transaction 1 changes an object and finishes before 0 does the same; 2, which is still active, has kept its read of it.
@@ -232,7 +318,7 @@ fn has_order(book: &[u8], events: u64, order: &[u16]) {
     for room in [TRANSACTIONS, n] {
         let mut list = [FIELD; TRANSACTIONS];
         assert_eq!(
-            replay(book, &mut list[..room]),
+            replay(book, ON, &mut list[..room]),
             answer(0, events, 0, n as u64)
         );
         assert_eq!(&list[..n], order);
@@ -240,7 +326,10 @@ fn has_order(book: &[u8], events: u64, order: &[u16]) {
     }
     for room in 0..n {
         let mut list = [FIELD; TRANSACTIONS];
-        assert_eq!(replay(book, &mut list[..room]), answer(19, events, 0, 0));
+        assert_eq!(
+            replay(book, ON, &mut list[..room]),
+            answer(19, events, 0, 0)
+        );
         assert_eq!(list, [FIELD; TRANSACTIONS]);
     }
 }
@@ -257,10 +346,9 @@ fn replayed_in_order() {
 /// A field of two bytes before the place: bytes are counted in reading, fields in writing.
 fn places_in_fields() {
     is_not_written(&[1, 0, 1, 1, 0, 5, 300], answer(2, 0, 7, 0));
-    assert_eq!(
-        read(&[0x01, 0x00, 0x01, 0x01, 0x00, 0x05, 0xAC, 0x02]),
-        answer(2, 0, 8, 5)
-    );
+    let bytes = [0x01, 0x00, 0x01, 0x01, 0x00, 0x05, 0xAC, 0x02];
+    assert_eq!(read(&bytes, ON), answer(2, 0, 8, 0));
+    assert_eq!(opening(&bytes), &bytes[..5]);
 }
 
 /// A book of 65,536 bytes: two plain transactions hand one operation to and fro. With one byte more it is too long.
@@ -272,16 +360,20 @@ fn long_books() {
     while book.len() < BOOK_BYTES {
         book.extend_from_slice(&[0x05, 0x00, 0x01, 0x00, 0x05, 0x01, 0x00, 0x00]);
     }
-    assert_eq!(read(&book), answer(0, 16_383, 0, 65_536));
-    assert_eq!(lines(&book), 4);
+    assert_eq!(read(&book, ON), answer(0, 16_383, 0, 0));
+    has_listing(
+        &book,
+        ON,
+        "book accepted 16383\nt 0 active\nt 1 active\nop 0 0 write 0 active\n",
+        16_383,
+    );
     goes_and_comes_back(&book, 16_383);
 
     book.push(0x00);
-    assert_eq!(read(&book), answer(1, 0, 0, 0));
+    assert_eq!(read(&book, ON), answer(1, 0, 0, 0));
     assert_eq!(opening(&book), []);
-    assert_eq!(lines(&book), 1);
-    has_line(&book, 0, "book refused 1 0 0\n", 0);
-    assert_eq!(next(&book, 0), NOTHING);
+    has_listing(&book, ON, "book refused 1 0 0\n", 0);
+    assert_eq!(next(&book, ON, 0), NOTHING);
     is_not_unpacked(&book, answer(1, 0, 0, 0));
     is_not_written(&vec![0; 65_537], answer(1, 0, 0, 0));
 }
@@ -289,11 +381,28 @@ fn long_books() {
 fn all() {
     the_listing();
     after_the_listing();
+    read_on();
+    refused_events();
+    circles();
     empty_and_torn();
     closed_step_by_step();
     replayed_in_order();
     places_in_fields();
     long_books();
+    many_refused();
+}
+
+/// As many refused events as a book can hold: 32,765 commits of a transaction that never began.
+fn many_refused() {
+    let mut book = vec![0x01, 0x00, 0x01, 0x00, 0x00];
+    let mut text = String::from("book accepted 0\n");
+    for index in 0..32_765 {
+        book.extend([0x02, 0x00]);
+        text.push_str(&format!("no {index} 11\n"));
+    }
+    text.push_str("t 0 idle\n");
+    assert_eq!(read(&book, ON), answer(0, 0, 0, 32_765));
+    has_listing(&book, ON, &text, 0);
 }
 
 /// A stack of 128 KiB is enough for every function.

@@ -359,7 +359,7 @@ mod tests {
                 let Some(story) = story_aimed_at(random, number) else {
                     continue;
                 };
-                let reading = second::read(&story.draft.bytes());
+                let reading = second::read_to_first_refusal(&story.draft.bytes());
                 assert_eq!(reading.number, number);
                 assert_eq!(reading.events + 1, story.draft.events.len());
                 let (last, before) = story.draft.events.split_last().unwrap();

@@ -7,7 +7,8 @@ use std::fmt::Write;
 /// What is asked: a book to be read, or fields to be written, and the size of
 /// the lent room; or a book to be read with circles permitted in its tables,
 /// which takes no room; or the text of a plan of record moves and a book to
-/// tell them from; or a book to be replayed, and the size of the lent list.
+/// tell them from; or a book to be replayed, and the size of the lent list; or a
+/// book to be read to its first refusal, and with circles permitted too.
 #[derive(Clone, Debug, PartialEq, Eq)]
 pub enum Case {
     Book(Vec<u8>, usize),
@@ -15,6 +16,8 @@ pub enum Case {
     CirclesBook(Vec<u8>),
     Moves(Vec<u8>, Vec<u8>),
     Replay(Vec<u8>, usize),
+    FirstRefusal(Vec<u8>, usize),
+    CirclesFirstRefusal(Vec<u8>),
 }
 
 impl Case {
@@ -26,6 +29,8 @@ impl Case {
             Case::CirclesBook(book) => circles_book_answer(book),
             Case::Moves(plan, book) => moves_answer(plan, book),
             Case::Replay(book, size) => replay_answer(book, *size),
+            Case::FirstRefusal(book, room) => first_refusal_answer(book, *room),
+            Case::CirclesFirstRefusal(book) => circles_first_refusal_answer(book),
         }
     }
 }
@@ -43,16 +48,15 @@ fn book_answer(book: &[u8], room: usize) -> Vec<u8> {
     let mut text = second::listing(book);
     put_opening(&mut text, second::opening(book));
     put_state(&mut text, &second::read(book));
-    let mut fields = vec![0; room];
-    match second::unpack(book, &mut fields) {
-        Ok(count) => {
-            writeln!(text, "unpacked {count}").expect(PUT);
-            for field in &fields[..count] {
-                writeln!(text, "{field}").expect(PUT);
-            }
-        }
-        Err(refused) => text += &refused_line(refused),
-    }
+    put_fields(&mut text, book, room);
+    text.into_bytes()
+}
+
+fn first_refusal_answer(book: &[u8], room: usize) -> Vec<u8> {
+    let mut text = second::listing_to_first_refusal(book);
+    put_opening(&mut text, second::opening(book));
+    put_state(&mut text, &second::read_to_first_refusal(book));
+    put_fields(&mut text, book, room);
     text.into_bytes()
 }
 
@@ -60,6 +64,14 @@ fn circles_book_answer(book: &[u8]) -> Vec<u8> {
     let mut text = second::listing_circles_permitted(book);
     put_opening(&mut text, second::opening_circles_permitted(book));
     put_state(&mut text, &second::read_circles_permitted(book));
+    text.into_bytes()
+}
+
+fn circles_first_refusal_answer(book: &[u8]) -> Vec<u8> {
+    let mut text = second::listing_circles_permitted_to_first_refusal(book);
+    put_opening(&mut text, second::opening_circles_permitted(book));
+    let reading = second::read_circles_permitted_to_first_refusal(book);
+    put_state(&mut text, &reading);
     text.into_bytes()
 }
 
@@ -77,6 +89,20 @@ fn put_state(text: &mut String, reading: &second::Reading) {
         for later in (0..64).filter(|later| row >> later & 1 == 1) {
             writeln!(text, "{earlier} {later}").expect(PUT);
         }
+    }
+}
+
+/// The fields, or why there are none.
+fn put_fields(text: &mut String, book: &[u8], room: usize) {
+    let mut fields = vec![0; room];
+    match second::unpack(book, &mut fields) {
+        Ok(count) => {
+            writeln!(text, "unpacked {count}").expect(PUT);
+            for field in &fields[..count] {
+                writeln!(text, "{field}").expect(PUT);
+            }
+        }
+        Err(refused) => *text += &refused_line(refused),
     }
 }
 

@@ -1,6 +1,7 @@
 //! Books and lists of fields, each fixed by a seed and an index.
 
 use crate::aim;
+use crate::carried;
 use crate::damage;
 use crate::draft::encode_field;
 use crate::noise;
@@ -44,7 +45,8 @@ const MAKERS: [(usize, Maker); 22] = [
     (5, shortest),
 ];
 
-/// One book in so many is a long one, every other of these too long.
+/// One book in so many is a long one, every other of these too long. One in
+/// twice as many is full of refused events.
 const LONG_ONES: u64 = 500;
 
 /// One book in so many is laid out for the order to replay in.
@@ -55,6 +57,9 @@ pub fn is_ordered(index: u64) -> bool {
     index % ORDERED_ONES == 7
 }
 
+/// One book in so many has refused events in its middle.
+const CARRIED_ONES: u64 = 20;
+
 /// The book with the index among those of the seed.
 pub fn book(seed: u64, index: u64) -> Made {
     let mut random = Random::new(seed, index);
@@ -64,8 +69,14 @@ pub fn book(seed: u64, index: u64) -> Made {
     if index % (2 * LONG_ONES) == 2 * LONG_ONES - 1 {
         return noise::longest(&mut random);
     }
+    if index % (2 * LONG_ONES) == LONG_ONES / 2 - 1 {
+        return carried::longest(&mut random);
+    }
     if is_ordered(index) {
         return ordered::ordered(&mut random);
+    }
+    if index % CARRIED_ONES == 13 {
+        return carried::carried(&mut random);
     }
     let chosen = random.weighted(MAKERS.iter().map(|(weight, _)| *weight));
     let (_, maker) = MAKERS[chosen];
@@ -275,7 +286,7 @@ mod tests {
         for index in 0..BOOKS {
             let made = book(3, index);
             if let Some(number) = meant_number(made.kind) {
-                let reading = second::read(&made.bytes);
+                let reading = second::read_to_first_refusal(&made.bytes);
                 assert_eq!(reading.number, number, "{} {index}", made.kind);
             }
         }
@@ -289,7 +300,7 @@ mod tests {
         }
         let of_long_ones = |kind: &str| kind.starts_with("too long") || kind.starts_with("longest");
         let known = kinds.keys().filter(|kind| !of_long_ones(kind)).count();
-        assert_eq!(known, 73);
+        assert_eq!(known, 81);
     }
 
     #[test]
@@ -320,7 +331,7 @@ mod tests {
         for index in 0..BOOKS {
             let fields = field_list(6, index);
             let bytes = encode(&fields);
-            let reading = second::read(&bytes);
+            let reading = second::read_to_first_refusal(&bytes);
             let mut room = vec![0; 65_536];
             match second::write(&fields, &mut room) {
                 Ok(count) => {
@@ -364,13 +375,13 @@ mod tests {
         let mut bytes = vec![0; 65_536];
         for index in 0..BOOKS {
             let made = book(8, index);
-            let reading = second::read(&made.bytes);
+            let reading = second::read_to_first_refusal(&made.bytes);
             let opening = second::opening(&made.bytes);
             if opening.is_empty() {
                 assert!(reading.number != 0 && reading.events == 0);
                 continue;
             }
-            let again = second::read(opening);
+            let again = second::read_to_first_refusal(opening);
             assert_eq!((again.number, again.events), (0, reading.events));
             let count = second::unpack(opening, &mut fields).unwrap();
             let written = second::write(&fields[..count], &mut bytes).unwrap();

@@ -14,6 +14,8 @@ impl Case {
             Case::CirclesBook(..) => b'c',
             Case::Moves(..) => b'm',
             Case::Replay(..) => b'r',
+            Case::FirstRefusal(..) => b'f',
+            Case::CirclesFirstRefusal(..) => b'g',
         }
     }
 
@@ -21,15 +23,22 @@ impl Case {
     /// is where the plan ends.
     fn room(&self) -> usize {
         match self {
-            Case::Book(_, room) | Case::Fields(_, room) | Case::Replay(_, room) => *room,
-            Case::CirclesBook(_) => 0,
+            Case::Book(_, room)
+            | Case::Fields(_, room)
+            | Case::Replay(_, room)
+            | Case::FirstRefusal(_, room) => *room,
+            Case::CirclesBook(_) | Case::CirclesFirstRefusal(_) => 0,
             Case::Moves(plan, _) => plan.len(),
         }
     }
 
     fn bytes(&self) -> Vec<u8> {
         match self {
-            Case::Book(book, _) | Case::CirclesBook(book) | Case::Replay(book, _) => book.clone(),
+            Case::Book(book, _)
+            | Case::CirclesBook(book)
+            | Case::Replay(book, _)
+            | Case::FirstRefusal(book, _)
+            | Case::CirclesFirstRefusal(book) => book.clone(),
             Case::Fields(fields, _) => fields.iter().flat_map(|f| f.to_le_bytes()).collect(),
             Case::Moves(plan, book) => [&plan[..], book].concat(),
         }
@@ -62,7 +71,8 @@ pub fn heading(index: usize) -> Vec<u8> {
 
 /// The cases of a seed: books, and a list of fields after every fourth. Every
 /// third has a room that is about as large as needed. Books whose tables can
-/// never move, and every eighth, are asked with circles permitted too. After
+/// never move, and every eighth, are asked with circles permitted too. Wherever
+/// an event is refused the book is asked in both ways. After
 /// every fourth there is a plan of record moves with a book of its own. Every
 /// fourth, and those laid out for it, are asked for the order to replay in too.
 pub fn made(seed: u64, count: u64) -> Vec<Case> {
@@ -73,8 +83,15 @@ pub fn made(seed: u64, count: u64) -> Vec<Case> {
         let reading = second::read(&bytes);
         let never_moves = reading.number == second::refusal::NEVER_MOVES;
         cases.push(Case::Book(bytes.clone(), room));
+        if !reading.refused_events.is_empty() {
+            cases.push(Case::FirstRefusal(bytes.clone(), room));
+        }
         if never_moves || index.is_multiple_of(8) {
+            let permitted = second::read_circles_permitted(&bytes);
             cases.push(Case::CirclesBook(bytes.clone()));
+            if !permitted.refused_events.is_empty() {
+                cases.push(Case::CirclesFirstRefusal(bytes.clone()));
+            }
         }
         for size in list_sizes(index, second::replay_order(&reading).len()) {
             cases.push(Case::Replay(bytes.clone(), size));
@@ -145,6 +162,8 @@ fn fixed_case(line: &str) -> Option<Case> {
         )),
         ("c", None) => Some(Case::CirclesBook(numbers(words, byte)?)),
         ("r", Some(size)) => Some(Case::Replay(numbers(words, byte)?, size)),
+        ("f", _) => Some(Case::FirstRefusal(numbers(words, byte)?, lent)),
+        ("g", None) => Some(Case::CirclesFirstRefusal(numbers(words, byte)?)),
         _ => None,
     }
 }
@@ -231,7 +250,7 @@ mod tests {
     fn a_line_of_the_fixed_cases() {
         let text = "# not this\n\nb 01 x2 0A /3\nw 7 300\nc 01 x2 FF x1 03 04\n\
                     m \"move A/B\\n\" x2 \"x\\t\" \"#\\r\" x1 \"\\x7Cz\\x22\" | 01 x2 0F\nm | 01\n\
-                    r 01 x2 0A /0\n";
+                    r 01 x2 0A /0\nf 01 x2 0A /3\nf 02\ng 02 x2 07\n";
         let cases = fixed(text).unwrap();
         assert_eq!(
             cases,
@@ -242,6 +261,9 @@ mod tests {
                 Case::Moves(b"move A/B\nx\t#\rx\t#\r|z\"".to_vec(), vec![1, 15, 15]),
                 Case::Moves(vec![], vec![1]),
                 Case::Replay(vec![1, 10, 10], 0),
+                Case::FirstRefusal(vec![1, 10, 10], 3),
+                Case::FirstRefusal(vec![2], MOST_ROOM),
+                Case::CirclesFirstRefusal(vec![2, 7, 7]),
             ]
         );
     }
@@ -251,7 +273,7 @@ mod tests {
         let text = include_str!("../fixed.txt");
         let lines = text
             .lines()
-            .filter(|line| line.starts_with(['b', 'w', 'c', 'm', 'r']));
+            .filter(|line| line.starts_with(['b', 'w', 'c', 'm', 'r', 'f', 'g']));
         assert_eq!(fixed(text).map(|cases| cases.len()), Ok(lines.count()));
     }
 
@@ -267,6 +289,8 @@ mod tests {
             "c 01 /3",
             "r 01",
             "r 1G /3",
+            "f 1G",
+            "g 01 /3",
             "m 01",
             "m | 1G",
             "m \"move\" 01 | 01",
@@ -288,9 +312,11 @@ mod tests {
             Case::CirclesBook(vec![7, 8]),
             Case::Moves(vec![4; 300], vec![5, 6]),
             Case::Replay(vec![3], 260),
+            Case::FirstRefusal(vec![4], 5),
+            Case::CirclesFirstRefusal(vec![6, 7]),
         ];
         let asked = [
-            &[5, 0, 0][..],
+            &[7, 0, 0][..],
             &[b'b', 2, 0, 0, 1, 0, 0, 9],
             &[b'w', 0, 0, 1, 2, 0, 0, 2, 1],
             &[b'c', 0, 0, 0, 2, 0, 0, 7, 8],
@@ -298,6 +324,8 @@ mod tests {
             &[4; 300],
             &[5, 6],
             &[b'r', 4, 1, 0, 1, 0, 0, 3],
+            &[b'f', 5, 0, 0, 1, 0, 0, 4],
+            &[b'g', 0, 0, 0, 2, 0, 0, 6, 7],
         ];
         assert_eq!(question(&cases), asked.concat());
     }
@@ -330,11 +358,59 @@ mod tests {
     fn what_is_left_comes_after_the_opening() {
         // A saga of two steps, its first done, its second at work; then 13.
         let bytes = vec![1, 1, 2, 0, 0, 0, 1, 0, 1, 1, 2, 1, 1, 2, 2, 0];
-        let answer = "book refused 13 4 14\nt 0 active\nt 1 committed\nt 2 active\nt 3 idle\n\
-                      saga 0 4 abort 0\nopening 14\nleft 4\nreplay\nactive 2 lowest 0\n";
-        let refused = format!("{answer}refused 13 4 14\n");
-        assert_eq!(Case::Book(bytes.clone(), 9).answer(), refused.as_bytes());
-        assert_eq!(Case::CirclesBook(bytes).answer(), answer.as_bytes());
+        let state = "t 0 active\nt 1 committed\nt 2 active\nt 3 idle\nsaga 0 4 abort 0\n\
+                     opening 14\nleft 4\nreplay\nactive 2 lowest 0\n";
+        let carried_on = format!("book accepted 4\nno 4 13\n{state}");
+        let refused = format!("book refused 13 4 14\n{state}");
+        let no_fields = "refused 13 4 14\n";
+        let answer = |case: Case| String::from_utf8(case.answer()).unwrap();
+        assert_eq!(
+            answer(Case::Book(bytes.clone(), 9)),
+            format!("{carried_on}{no_fields}")
+        );
+        assert_eq!(
+            answer(Case::FirstRefusal(bytes.clone(), 9)),
+            format!("{refused}{no_fields}")
+        );
+        assert_eq!(answer(Case::CirclesBook(bytes.clone())), carried_on);
+        assert_eq!(answer(Case::CirclesFirstRefusal(bytes)), refused);
+    }
+
+    #[test]
+    fn the_state_is_that_of_the_way_and_the_opening_is_not() {
+        // 0 commits too early, begins, writes and commits.
+        let bytes = vec![1, 0, 1, 1, 0, 2, 0, 1, 0, 4, 0, 0, 1, 2, 0];
+        let answer = |case: Case| String::from_utf8(case.answer()).unwrap();
+        assert_eq!(
+            answer(Case::Book(bytes.clone(), 99)),
+            "book accepted 3\nno 0 11\nt 0 committed\nop 0 0 write 0 committed\n\
+             opening 5\nleft 0\nreplay 0\nactive 0 lowest 64\nrefused 11 0 5\n"
+        );
+        assert_eq!(
+            answer(Case::FirstRefusal(bytes.clone(), 99)),
+            "book refused 11 0 5\nt 0 idle\n\
+             opening 5\nleft 0\nreplay\nactive 0 lowest 64\nrefused 11 0 5\n"
+        );
+        assert_eq!(answer(Case::Replay(bytes.clone(), 1)), "replay 0\n");
+        assert_eq!(answer(Case::Replay(bytes, 0)), "refused 19 3 0\n");
+    }
+
+    #[test]
+    fn books_with_a_refused_event_are_asked_in_both_ways() {
+        let cases = made(1, 400);
+        let mut in_both_ways = [0, 0];
+        for (index, case) in cases.iter().enumerate() {
+            match case {
+                Case::Book(bytes, room) if !second::read(bytes).refused_events.is_empty() => {
+                    let old_way = Case::FirstRefusal(bytes.clone(), *room);
+                    assert_eq!(cases[index + 1], old_way);
+                    in_both_ways[0] += 1;
+                }
+                Case::CirclesFirstRefusal(_) => in_both_ways[1] += 1,
+                _ => {}
+            }
+        }
+        assert!(in_both_ways[0] > 150 && in_both_ways[1] > 20);
     }
 
     #[test]
@@ -349,6 +425,8 @@ mod tests {
         assert_eq!(answer(b"list 1A\n", &put_back), "plan refused 28 0 0\n");
         assert_eq!(answer(b"move A\n\nmove\n", &put_back), "line 3\n");
         assert_eq!(answer(b"", &put_back[..9]), "book refused 2 1 9\n");
+        let begun_again = [&put_back[..8], &[1, 0, 3, 0]].concat();
+        assert_eq!(answer(b"move A\nlist 1A\n", &begun_again), lines);
         assert_eq!(answer(b"", &put_back), "left 0\n");
         assert_eq!(answer(b"", &put_back[..8]), "left 1\n");
     }
@@ -387,11 +465,11 @@ mod tests {
     }
 
     #[test]
-    fn about_a_seventh_of_the_cases_are_plans() {
+    fn about_a_ninth_of_the_cases_are_plans() {
         let cases = made(1, 400);
         let plans = cases.iter().filter(|case| case.letter() == b'm').count();
         assert_eq!(plans, 100);
-        assert!((6..=8).contains(&(cases.len() / plans)));
+        assert!((8..=10).contains(&(cases.len() / plans)));
     }
 
     #[test]

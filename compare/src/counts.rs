@@ -3,7 +3,8 @@
 use crate::barred::Barred;
 use crate::books::Made;
 use crate::orders::Orders;
-use crate::replay::{model_after, replay};
+use crate::passed::Passed;
+use crate::replay::replay;
 use crate::singles::Singles;
 use std::collections::BTreeMap;
 use std::fmt;
@@ -21,11 +22,13 @@ pub struct Counts {
     events: u64,
     kinds: BTreeMap<&'static str, u64>,
     numbers: [u64; HIGHEST_OF_READING + 1],
-    /// What reading with circles permitted comes to, for books refused by 21.
+    /// What reading with circles permitted to the first refusal comes to, for
+    /// books refused by 21.
     circles_numbers: BTreeMap<u8, u64>,
     singles: Singles,
     barred: Barred,
     orders: Orders,
+    passed: Passed,
 }
 
 /// The refusals that reading can come to.
@@ -34,23 +37,25 @@ fn of_reading() -> impl Iterator<Item = usize> {
 }
 
 impl Counts {
-    /// Counts a book in, by its kind and by the number it is read with.
+    /// Counts a book in, by its kind and by the number of its first refusal.
     pub fn count(&mut self, made: &Made) {
         let reading = second::read(&made.bytes);
+        let first_refusal = second::read_to_first_refusal(&made.bytes).number;
         self.books += 1;
         self.events += reading.events as u64;
         *self.kinds.entry(made.kind).or_default() += 1;
-        self.numbers[usize::from(reading.number)] += 1;
-        replay(&made.bytes, &reading, |model, event, number| {
+        self.numbers[usize::from(first_refusal)] += 1;
+        let model = replay(&made.bytes, &reading, |model, event, number| {
             self.singles.count(model, event, number);
             self.barred.count(model, event, number);
         });
-        if let Some(model) = model_after(&made.bytes, &reading) {
+        if let Some(model) = model {
             self.orders.count(&model);
         }
+        self.passed.count(&reading);
         if reading.number == second::refusal::NEVER_MOVES {
-            let circles_number = second::read_circles_permitted(&made.bytes).number;
-            *self.circles_numbers.entry(circles_number).or_default() += 1;
+            let circles = second::read_circles_permitted_to_first_refusal(&made.bytes);
+            *self.circles_numbers.entry(circles.number).or_default() += 1;
         }
     }
 
@@ -82,7 +87,8 @@ impl fmt::Display for Counts {
                 _ => writeln!(output, "circles {count:6} refused {number}")?,
             }
         }
-        write!(output, "{}{}{}", self.singles, self.barred, self.orders)
+        write!(output, "{}{}{}", self.singles, self.barred, self.orders)?;
+        write!(output, "{}", self.passed)
     }
 }
 
@@ -109,6 +115,12 @@ mod tests {
             }
             for (count, name) in counts.orders.counted() {
                 assert!(count >= 20, "{count} {name}");
+            }
+            for (count, name) in counts.passed.counted() {
+                assert!(count >= 20, "{count} {name}");
+            }
+            for number in (8..=18).chain([20, 22]) {
+                assert!(counts.passed.by_number(number) >= 15, "{number}");
             }
         }
     }

@@ -65,11 +65,11 @@ impl fmt::Display for Orders {
 #[cfg(test)]
 mod tests {
     use super::*;
-    use crate::replay::model_after;
+    use crate::replay::replay;
 
     fn counted(book: &[u8]) -> Orders {
         let mut orders = Orders::default();
-        orders.count(&model_after(book, &second::read(book)).unwrap());
+        orders.count(&replay(book, &second::read(book), |_, _, _| {}).unwrap());
         orders
     }
 

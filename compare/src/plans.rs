@@ -3,6 +3,7 @@
 
 use crate::aim::{story_of_a_long_saga, story_of_sagas};
 use crate::books::book;
+use crate::carried::disturbed;
 use crate::draft::{Draft, Event};
 use crate::random::Random;
 use crate::story::{story, Story};
@@ -18,15 +19,21 @@ pub struct Planned {
 pub fn planned(seed: u64, index: u64) -> Planned {
     // Plans are drawn apart from the books and the lists of the same seed.
     let mut random = Random::new(seed.rotate_left(32), index);
-    let book = book_with_sagas(&mut random).unwrap_or_else(|| book(seed, index).bytes);
+    let with_sagas = book_with_sagas(&mut random);
+    let any_book = || book(seed, index).bytes;
+    let book = with_sagas.as_ref().map_or_else(any_book, Draft::bytes);
     let sagas = Draft::of_book(&book).map_or(Vec::new(), |draft| draft.tables.steps);
     let plan = plan(&mut random, &sagas);
+    let book = match with_sagas {
+        Some(draft) if random.one_in(4) => disturbed(&mut random, draft),
+        _ => book,
+    };
     Planned { plan, book }
 }
 
 /// An accepted book whose sagas are left somewhere on their way, or at its end.
 /// Now and then none: then any book will do.
-fn book_with_sagas(random: &mut Random) -> Option<Vec<u8>> {
+fn book_with_sagas(random: &mut Random) -> Option<Draft> {
     let told: fn(&mut Random) -> Story = match random.below(6) {
         0 => return None,
         1 => story,
@@ -39,7 +46,7 @@ fn book_with_sagas(random: &mut Random) -> Option<Vec<u8>> {
     } else {
         left_on_its_way(random, &whole)
     };
-    Some(left.draft.bytes())
+    Some(left.draft)
 }
 
 /// A story up to some place, where some sagas are given up and a few events

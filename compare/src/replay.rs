@@ -5,34 +5,31 @@ use crate::model::Model;
 use second::Reading;
 
 /// Shows each event of a book with the state before it and the number it is
-/// read with: 0 for the accepted ones, then the refused one, if there is one.
-pub fn replay(book: &[u8], reading: &Reading, mut show: impl FnMut(&Model, Event, u8)) {
-    if reading.opening == 0 {
-        return;
-    }
-    let Some(Draft { tables, events }) = Draft::of_book(book) else {
-        return;
-    };
-    let mut model = Model::new(&tables);
-    for event in &events[..reading.events] {
-        show(&model, *event, second::refusal::ACCEPTED);
-        model.take(*event);
-    }
-    if let Some(event) = events.get(reading.events) {
-        show(&model, *event, reading.number);
-    }
-}
-
-/// The state that the accepted events of a book have come to; none if its
-/// tables were refused.
-pub fn model_after(book: &[u8], reading: &Reading) -> Option<Model> {
+/// read with, 0 for the accepted ones; the last is the one at which reading
+/// stopped, if it did. Hands back the state that the accepted ones have come to;
+/// none if the tables were refused.
+pub fn replay(
+    book: &[u8],
+    reading: &Reading,
+    mut show: impl FnMut(&Model, Event, u8),
+) -> Option<Model> {
     if reading.opening == 0 {
         return None;
     }
     let Draft { tables, events } = Draft::of_book(book)?;
+    let (judged, behind) = events.split_at(reading.judged());
     let mut model = Model::new(&tables);
-    for event in &events[..reading.events] {
-        model.take(*event);
+    let mut refused = reading.refused_events.iter().peekable();
+    for (index, event) in judged.iter().enumerate() {
+        if let Some(refused) = refused.next_if(|refused| refused.index == index) {
+            show(&model, *event, refused.number);
+        } else {
+            show(&model, *event, second::refusal::ACCEPTED);
+            model.take(*event);
+        }
+    }
+    if let Some(event) = behind.first() {
+        show(&model, *event, reading.number);
     }
     Some(model)
 }
@@ -49,16 +46,21 @@ mod tests {
         let mut shown = 0;
         for index in 0..BOOKS {
             let made = book(17, index);
-            let reading = second::read_circles_permitted(&made.bytes);
-            replay(&made.bytes, &reading, |model, event, number| {
-                // Below 8, it is no event that is refused.
-                if number == 0 || number >= 8 {
-                    assert_eq!(model.verdict(event), number, "{index} {event:?}");
-                    shown += 1;
-                }
-            });
+            let in_both_ways = [
+                second::read_circles_permitted(&made.bytes),
+                second::read_circles_permitted_to_first_refusal(&made.bytes),
+            ];
+            for reading in in_both_ways {
+                replay(&made.bytes, &reading, |model, event, number| {
+                    // Below 8, it is no event that is refused.
+                    if number == 0 || number >= 8 {
+                        assert_eq!(model.verdict(event), number, "{index} {event:?}");
+                        shown += 1;
+                    }
+                });
+            }
         }
-        assert!(shown > 20 * BOOKS);
+        assert!(shown > 50 * BOOKS);
     }
 
     #[test]
@@ -68,7 +70,7 @@ mod tests {
             let made = book(18, index);
             let reading = second::read_circles_permitted(&made.bytes);
             let order = second::replay_order(&reading);
-            let model = model_after(&made.bytes, &reading);
+            let model = replay(&made.bytes, &reading, |_, _, _| {});
             let by_model = model.map(|model| model.replay_order());
             assert_eq!(by_model.unwrap_or_default(), order, "{index}");
             named += order.len() as u64;

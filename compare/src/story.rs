@@ -183,13 +183,18 @@ impl Story {
         self.go_on_with(Event::Abort(t));
     }
 
-    /// Adds an event whatever becomes of it.
-    pub fn stray(&mut self, random: &mut Random) {
-        let code = random.within(1..=7);
-        let event = wild_event(random, &self.model, code);
+    /// Adds this event whatever becomes of it.
+    pub fn add(&mut self, event: Event) {
         if !self.go_on_with(event) {
             self.draft.events.push(event);
         }
+    }
+
+    /// Adds some event whatever becomes of it.
+    pub fn stray(&mut self, random: &mut Random) {
+        let code = random.within(1..=7);
+        let event = wild_event(random, &self.model, code);
+        self.add(event);
     }
 }
 

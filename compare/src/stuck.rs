@@ -283,7 +283,7 @@ mod tests {
             for t in never_begun {
                 let mut draft = story.draft.clone();
                 draft.events.push(Event::Begin(t));
-                let refused = second::read_circles_permitted(&draft.bytes());
+                let refused = second::read_circles_permitted_to_first_refusal(&draft.bytes());
                 assert_eq!((refused.number, refused.events), (14, reading.events));
                 waiting += 1;
             }

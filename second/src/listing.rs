@@ -4,10 +4,14 @@ use crate::closing::{closing, outstanding};
 use crate::event::{ABORT, BEGIN};
 use crate::refusal;
 use crate::state::{Mark, Phase};
-use crate::{read, read_circles_permitted, Reading};
+use crate::{
+    read, read_circles_permitted, read_circles_permitted_to_first_refusal, read_to_first_refusal,
+    Reading, RefusedEvent,
+};
 
-/// The listing: whether the book is accepted, then the transactions, the
-/// operations and the sagas. After refused tables only the first line.
+/// The listing: whether the book is accepted, then the refused events, the
+/// transactions, the operations and the sagas. After refused tables only the
+/// first line.
 pub fn listing(book: &[u8]) -> String {
     lines(&read(book))
 }
@@ -17,11 +21,23 @@ pub fn listing_circles_permitted(book: &[u8]) -> String {
     lines(&read_circles_permitted(book))
 }
 
+/// The listing of a book that is read to its first refusal.
+pub fn listing_to_first_refusal(book: &[u8]) -> String {
+    lines(&read_to_first_refusal(book))
+}
+
+/// The listing of a book that is read with circles permitted to its first
+/// refusal.
+pub fn listing_circles_permitted_to_first_refusal(book: &[u8]) -> String {
+    lines(&read_circles_permitted_to_first_refusal(book))
+}
+
 fn lines(reading: &Reading) -> String {
     let transactions = 0..reading.tables.transactions();
     let operations = 0..reading.state.operations();
     let sagas = 0..reading.tables.sagas().len();
     std::iter::once(book_line(reading))
+        .chain(reading.refused_events.iter().map(refused_event_line))
         .chain(transactions.map(|number| transaction_line(reading, number)))
         .chain(operations.map(|number| operation_line(reading, number)))
         .chain(sagas.map(|index| saga_line(reading, index)))
@@ -40,6 +56,10 @@ pub(crate) fn book_line(reading: &Reading) -> String {
     } else {
         format!("book refused {number} {events} {place}\n")
     }
+}
+
+fn refused_event_line(refused: &RefusedEvent) -> String {
+    format!("no {} {}\n", refused.index, refused.number)
 }
 
 /// The line of the board above the pass: how much is left in all.

@@ -14,6 +14,7 @@ use std::time::{Duration, Instant};
 const USAGE: &str = "usage: second listing | opening | unpack [ROOM] | write [ROOM] | pairs | left
        second replay [ROOM]
        second circles-listing | circles-opening
+       second first-refusal | circles-first-refusal
        second moves PLAN
        second listings FOLDER
        second measure FILE TIMES
@@ -52,6 +53,13 @@ fn answer(arguments: &[OsString]) -> Result<Vec<u8>, String> {
         }
         (Some("circles-opening"), []) => {
             Ok(second::opening_circles_permitted(&book_from_input()?).to_vec())
+        }
+        (Some("first-refusal"), []) => {
+            Ok(second::listing_to_first_refusal(&book_from_input()?).into_bytes())
+        }
+        (Some("circles-first-refusal"), []) => {
+            let book = book_from_input()?;
+            Ok(second::listing_circles_permitted_to_first_refusal(&book).into_bytes())
         }
         (Some("unpack"), room @ ([] | [_])) => unpack(room_size(room)?),
         (Some("write"), room @ ([] | [_])) => write(room_size(room)?),
@@ -224,7 +232,7 @@ fn measure(file: &Path, times: usize) -> Result<Vec<u8>, String> {
         return Err("TIMES must be at least 1".to_string());
     }
     let book = bytes_of_file(file)?;
-    let events = second::read(&book).events;
+    let events = second::read(&book).judged();
     let taken = time_of_reading(&book, times);
     let per_event = taken.as_nanos() as f64 / times as f64 / events.max(1) as f64;
     let line = format!("ns_per_event {per_event:.1} events {events} reads {times}\n");

@@ -91,14 +91,41 @@ fn single_operations() {
     let lines = "t 0 active\nop 0 0 write 0 committed\nop 1 1 write 0 aborted\n";
     answers(&["listing"], &book, &format!("book accepted 5\n{lines}"));
     let dropped_again = [&book[..], &[7, 0, 0]].concat();
+    let carried_on = format!("book accepted 5\nno 5 20\n{lines}");
+    answers(&["listing"], &dropped_again, &carried_on);
     let refused = format!("book refused 20 5 21\n{lines}");
-    answers(&["listing"], &dropped_again, &refused);
+    answers(&["first-refusal"], &dropped_again, &refused);
     answers(&["unpack"], &dropped_again, "refused 20 5 21\n");
     answers(
         &["write"],
         b"1 0 1 1 0 1 0 4 0 0 1 6 0 0",
         "written 14\n01 00 01 01 00 01 00 04 00 00 01 06 00 00\n",
     );
+}
+
+#[test]
+fn carrying_on() {
+    // The begin of T2 is refused; then C1 begins, plain 9 is unknown, C1 commits.
+    let carried = [&LISTED[..], &[1, 2, 1, 3, 1, 9, 2, 3]].concat();
+    let state = "t 0 aborted\nt 1 committed\nt 2 idle\nt 3 committed\nt 4 active\n\
+                 op 0 0 write 4 active\nsaga 0 0 none\n";
+    let listed = format!("book accepted 9\nno 7 13\nno 9 8\n{state}");
+    answers(&["listing"], &carried, &listed);
+    let torn = [&carried[..], &[2]].concat();
+    let listed = format!("book refused 2 9 33\nno 7 13\nno 9 8\n{state}");
+    answers(&["listing"], &torn, &listed);
+    answers(&["left"], &carried, "left 0\n");
+    answers(&["pairs"], &carried, "active 1 lowest 4\n");
+    answers(
+        &["first-refusal"],
+        &carried,
+        "book refused 13 7 24\nt 0 aborted\nt 1 committed\nt 2 idle\nt 3 idle\nt 4 active\n\
+         op 0 0 write 4 active\nsaga 0 2 begin 3\n",
+    );
+    let output = run(&["opening"], &carried);
+    assert_eq!(output.stdout, LISTED);
+    answers(&["unpack"], &carried, "refused 13 7 24\n");
+    complains(&["first-refusal", "more"], &carried);
 }
 
 #[test]
@@ -127,8 +154,15 @@ fn circles_permitted() {
     answers(
         &["circles-listing"],
         &stuck,
+        "book accepted 1\nno 1 14\nt 0 idle\nt 1 idle\nt 2 active\n",
+    );
+    answers(
+        &["circles-first-refusal"],
+        &stuck,
         "book refused 14 1 13\nt 0 idle\nt 1 idle\nt 2 active\n",
     );
+    answers(&["first-refusal"], &stuck, "book refused 21 0 4\n");
+    complains(&["circles-first-refusal", "more"], &book);
     let output = run(&["circles-opening"], &stuck);
     assert!(output.status.success());
     assert_eq!(output.stdout, book);

@@ -115,6 +115,8 @@ fn take_case(rest: &mut &[u8]) -> Option<Case> {
             Some(Case::Moves(plan.to_vec(), book.to_vec()))
         }
         b'r' => Some(Case::Replay(bytes.to_vec(), room)),
+        b'f' => Some(Case::FirstRefusal(bytes.to_vec(), room)),
+        b'g' => Some(Case::CirclesFirstRefusal(bytes.to_vec())),
         _ => None,
     }
 }
@@ -142,9 +144,9 @@ mod tests {
 
     #[test]
     fn a_question_is_read_back() {
-        let cases =
-            fixed("b 01 80 /3\nw 7 300 65535\nc 01\nm \"list a\" | 01\nb x70000 01\nr 01 02 /4\n")
-                .unwrap();
+        let text = "b 01 80 /3\nw 7 300 65535\nc 01\nm \"list a\" | 01\nb x70000 01\n\
+                    r 01 02 /4\nf 01 /5\nf 02\ng 03\n";
+        let cases = fixed(text).unwrap();
         let read: Vec<Case> = asked(&question(&cases)).unwrap();
         let show = |cases: &dyn std::fmt::Debug| format!("{cases:?}");
         assert_eq!(show(&read), show(&cases));

@@ -2,23 +2,30 @@
 //
 // A case is a letter, the size of the lent room, a length, and that many bytes; sizes and lengths have three bytes, low byte first. 'b' is a
 // book: its listing, the length of its accepted opening, how much is left, the order to replay in, the report on its state, and its fields unpacked into
-// the room. 'c' is a book whose begin dependencies may go round in a circle: the same without its fields. 'r' is a book too, and the order to replay in
-// is put into the room. 'w' is a list of fields, two bytes each, low byte first: what
+// the room. 'c' is a book whose begin dependencies may go round in a circle: the same without its fields. 'f' and 'g' are the same as 'b' and 'c', read to the first
+// refusal. 'r' is a book too, and the order to replay in is put into the room. 'w' is a list of fields, two bytes each, low byte first: what
 // writing them into the room answers. 'm' is a plan as staff write it, as long as the number says that stands for a room, and a book behind it: what
-// the program `recordmove` prints of them, or the number of the line that is not understood. It stops at the end of the input or where that is torn. A case that was not read gets no answer, and what
-// was not read, written or understood is said on standard error.
+// the program `recordmove` prints of them, or the number of the line that is not understood. It stops at the end of the input or where that is torn. A case that was
+// not read gets no answer, and what was not read, written or understood is said on standard error.
 use book::Outcome;
-use book::Reading;
 use input::Filled;
 use libc::STDERR_FILENO;
 use libc::STDIN_FILENO;
 use libc::STDOUT_FILENO;
-use listing::Placed;
-use listing::Text;
+use listing::Put;
+use number::Number;
+use onward::Judgement;
 use replay::Copied;
+use tables::Circles;
 use telling::Told;
 use terms::Book;
 use terms::Refusal;
+
+// How a book is read: on past refused events, or to the first of them.
+enum Way {
+    On,
+    ToFirstRefusal,
+}
 
 // A few words.
 fn say(words: &[u8]) {
@@ -50,23 +57,40 @@ fn say_refused(refusal: Refusal, events: usize, place: usize) {
     say_count(b"", place);
 }
 
-// Line k of a listing.
-fn say_line(reading: Reading, k: usize) {
-    let mut room = [0u8; Text::MOST];
-    let placed = listing::put_line(reading, k, &mut room);
-    let Placed::Wrote(n) = placed else {
-        return;
-    };
-    say(&room[..n]);
+// Reads a book in one of the ways.
+fn judged(way: Way, circles: Circles, bytes: &[u8]) -> Judgement {
+    match way {
+        Way::On => onward::read_by(bytes, Number::MOST, circles),
+        Way::ToFirstRefusal => match circles {
+            Circles::Forbidden => onward::read_to_first_refusal(bytes),
+            Circles::Permitted => onward::read_to_first_refusal_permitting_circles(bytes),
+        },
+    }
 }
 
-fn say_listing(reading: Reading) {
-    let lines = listing::line_count(reading);
-    let mut k: usize = 0;
-    while k < lines {
-        say_line(reading, k);
-        k += 1;
+// Puts the listing into a room.
+fn put_listing(way: Way, circles: Circles, bytes: &[u8], room: &mut [u8]) -> Put {
+    match way {
+        Way::On => listing::put_listing(bytes, circles, room),
+        Way::ToFirstRefusal => listing::put_listing_to_first_refusal(bytes, circles, room),
     }
+}
+
+fn say_listing_in(way: Way, circles: Circles, bytes: &[u8], room: &mut [u8]) {
+    match put_listing(way, circles, bytes, room) {
+        Put::Wrote(n) => {
+            if n <= room.len() {
+                say(&room[..n]);
+            }
+        }
+        Put::NoRoom => {}
+    }
+}
+
+// The listing, in a room that holds every listing.
+fn say_listing(way: Way, circles: Circles, bytes: &[u8]) {
+    let mut room = [0u8; 425231];
+    say_listing_in(way, circles, bytes, &mut room);
 }
 
 // One line for each transaction that a stands before.
@@ -81,8 +105,8 @@ fn say_pairs(a: usize, row: u64) {
     }
 }
 
-fn say_report(reading: Reading) {
-    let report = report::report_of(reading.state);
+fn say_report(judgement: Judgement) {
+    let report = report::report_of(judgement.state);
     say(b"active");
     then_number(report.active);
     say_count(b" lowest", report.lowest);
@@ -121,9 +145,9 @@ fn unpack(bytes: &[u8], room: &mut [u16]) {
 }
 
 // How much is left in the state that a book leads to.
-fn say_left(reading: Reading) {
-    let tables = reading.tables;
-    let state = reading.state;
+fn say_left(judgement: Judgement) {
+    let tables = judgement.tables;
+    let state = judgement.state;
     let left = left::left_of(tables, state);
     say_count(b"left", left);
 }
@@ -145,8 +169,8 @@ fn say_order(order: &[u16]) {
 }
 
 // What putting the order to replay in into a lent list answers.
-fn answer_replay(reading: Reading, list: &mut [u16]) {
-    let state = reading.state;
+fn answer_replay(judgement: Judgement, list: &mut [u16]) {
+    let state = judgement.state;
     let ops = state.ops;
     match replay::put_order(ops, list) {
         Copied::Wrote(n) => {
@@ -154,35 +178,38 @@ fn answer_replay(reading: Reading, list: &mut [u16]) {
                 say_order(&list[..n]);
             }
         }
-        Copied::NoRoom => say_refused(Refusal::NoRoom, reading.events, 0),
+        Copied::NoRoom => say_refused(Refusal::NoRoom, judgement.events, 0),
     }
 }
 
 // The order in a list that holds every order.
-fn say_replay(reading: Reading) {
+fn say_replay(judgement: Judgement) {
     let mut list = [0u16; Book::TRANSACTIONS];
-    answer_replay(reading, &mut list);
+    answer_replay(judgement, &mut list);
 }
 
-fn answer_book(bytes: &[u8], room: &mut [u16]) {
-    let reading = book::read(bytes);
-    say_listing(reading);
+// What the state comes to: how much is left, the order to replay in, and the report.
+fn say_state(judgement: Judgement) {
+    say_left(judgement);
+    say_replay(judgement);
+    say_report(judgement);
+}
+
+// A book whose begin dependencies may not go round in a circle.
+fn answer_book(way: Way, bytes: &[u8], room: &mut [u16]) {
+    say_listing(way, Circles::Forbidden, bytes);
     let opening = book::opening(bytes);
     say_count(b"opening", opening.len());
-    say_left(reading);
-    say_replay(reading);
-    say_report(reading);
+    say_state(judged(way, Circles::Forbidden, bytes));
     unpack(bytes, room);
 }
 
-fn circles_case(bytes: &[u8]) {
-    let reading = book::read_permitting_circles(bytes);
-    say_listing(reading);
+// A book whose begin dependencies may.
+fn circles_case(way: Way, bytes: &[u8]) {
+    say_listing(way, Circles::Permitted, bytes);
     let opening = book::opening_permitting_circles(bytes);
     say_count(b"opening", opening.len());
-    say_left(reading);
-    say_replay(reading);
-    say_report(reading);
+    say_state(judged(way, Circles::Permitted, bytes));
 }
 
 fn answer_write(fields: &[u16], room: &mut [u8]) {
@@ -223,12 +250,12 @@ fn fields_from(bytes: &[u8], fields: &mut [u16]) -> usize {
     i
 }
 
-fn book_case(bytes: &[u8], size: usize) {
+fn book_case(way: Way, bytes: &[u8], size: usize) {
     let mut room = [0u16; 65536];
     if 65536 < size {
         return;
     }
-    answer_book(bytes, &mut room[..size]);
+    answer_book(way, bytes, &mut room[..size]);
 }
 
 fn replay_case(bytes: &[u8], size: usize) {
@@ -236,8 +263,8 @@ fn replay_case(bytes: &[u8], size: usize) {
     if 65536 < size {
         return;
     }
-    let reading = book::read(bytes);
-    answer_replay(reading, &mut room[..size]);
+    let judgement = onward::read(bytes);
+    answer_replay(judgement, &mut room[..size]);
 }
 
 fn write_case(bytes: &[u8], size: usize) {
@@ -271,13 +298,17 @@ fn answer(letter: u8, bytes: &[u8], size: usize) {
     if letter == b'w' {
         write_case(bytes, size);
     } else if letter == b'c' {
-        circles_case(bytes);
+        circles_case(Way::On, bytes);
+    } else if letter == b'g' {
+        circles_case(Way::ToFirstRefusal, bytes);
+    } else if letter == b'f' {
+        book_case(Way::ToFirstRefusal, bytes, size);
     } else if letter == b'r' {
         replay_case(bytes, size);
     } else if letter == b'm' {
         move_case(bytes, size);
     } else {
-        book_case(bytes, size);
+        book_case(Way::On, bytes, size);
     }
 }
 

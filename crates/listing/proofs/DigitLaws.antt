@@ -25,10 +25,23 @@ pub decimal-le : (n : ℕ) → length (decimal n) ≤ 20
 unfolding decimal
 decimal-le n = digits-le 20 n
 
--- ---- digit after digit
-
 tenth : (n p : ℕ) → n < p * 10 → n / 10 < p
 tenth n p h = omega arith
+
+-- no more than its size asks for
+digits-few : (k m n : ℕ) → n < 10 ^ suc m → length (digitsFrom k n) ≤ suc m
+unfolding digitsFrom
+digits-few zero m n h = omega arith
+digits-few (suc k) zero n h = rw (lt-ltb n 10 (omega arith)) (omega arith)
+digits-few (suc k) (suc m) n h =
+    bool-cases (ltb n 10) (λ t. rw t (omega arith))
+    (λ f. rw f (simp length-append (omega (arith, digits-few k m (n / 10) (tenth n (10 ^ suc m) (rw (pow-suc 10 (suc m)) at h))))))
+
+pub decimal-few : (m n : ℕ) → n < 10 ^ suc m → length (decimal n) ≤ suc m
+unfolding decimal
+decimal-few m n h = digits-few 20 m n h
+
+-- ---- digit after digit
 
 -- room for one digit more than needed changes nothing
 digits-more : (k n : ℕ) → n < 10 ^ suc k → digitsFrom (suc k) n ≡ digitsFrom (suc (suc k)) n

@@ -3,3 +3,9 @@ pub mod TextLaws
 pub mod DigitLaws
 pub mod ListingLaws
 pub mod TextPromisesHold
+pub mod PieceLaws
+pub mod StepLaws
+pub mod SizeLaws
+pub mod WholeLaws
+pub mod ListingsFitHold
+pub mod Demand3BooksHolds

@@ -23,20 +23,20 @@ use Rattle.rules.specs.declared.Phase.the-variants.{Idle, Active, Committed, Ab
 use Rattle.closing.specs.Closing.{outstanding, closing}
 use Rattle.closing.specs.declared.NextStep.{NextStep}
 use Rattle.closing.specs.declared.NextStep.the-variants.{NoStep, ToBegin, ToCommit, ToAbort}
-use Rattle.book.specs.declared.Reading.{Reading}
+use Rattle.onward.specs.declared.Judgement.{Judgement}
+use Rattle.onward.specs.declared.No.{No}
 use Rattle.tables.specs.Counts.{transactionCount}
 use Rattle.listing.specs.declared.Put.{Put}
 use Rattle.listing.specs.declared.Put.the-variants.{Wrote as PutWrote, NoRoom as PutNoRoom}
-use Rattle.listing.specs.declared.Placed.{Placed}
-use Rattle.listing.specs.declared.Placed.the-variants.{Wrote, NoRoom, NoLine}
+use Rattle.listing.specs.declared.Placed.the-variants.{Wrote, NoLine}
 use Rattle.listing.specs.Texts.{mostText, putAnswer, putRoom, withAll}
-use Rattle.listing.specs.Lines.{phaseWord, fateWord, markWord, stepWords, firstLineBy, transactionLine, operationLineOf, operationLine, sagaLine, lineCount, laterLine, lineOf, placed, placeAnswer, placeRoom}
+use Rattle.listing.specs.Lines.{phaseWord, fateWord, markWord, stepWords, firstLineBy, transactionLine, operationLineOf, operationLine, sagaLine, noLine, lineCount, laterLine, lineOf, placed, placeAnswer, placeRoom}
 use Rattle.listing.proofs.TextLaws.{all-fits, put-fits, put-kept}
 use Rattle.listing.proofs.DigitLaws.{decimal-le}
 
 -- ---- which line is which
 
-module _ (r : Reading) (k n : ℕ) (e : n ≡ transactionCount (r .tables)) where
+module _ (r : Judgement) (k n : ℕ) (e : n ≡ transactionCount (r .tables)) where
   pub later-transaction : k < n → laterLine r k ≡ transactionLine r k
   unfolding laterLine
   later-transaction h = rw (lt-ltb k (transactionCount (r .tables)) (omega arith))
@@ -52,11 +52,11 @@ module _ (r : Reading) (k n : ℕ) (e : n ≡ transactionCount (r .tables)) wher
     later-saga h =
         rw (le-ltb k (transactionCount (r .tables)) (omega arith), ← e, ← d, le-ltb (k - n) m h)
 
-pub line-first : (r : Reading) (k : ℕ) → k ≡ 0 → lineOf r k ≡ firstLineBy (r .answer) (r .events) (r .place)
+pub line-first : (r : Judgement) (k : ℕ) → k ≡ 0 → lineOf r k ≡ firstLineBy (r .answer) (r .events) (r .place)
 unfolding lineOf
 line-first r k e = rw (eq-eqb k 0 e)
 
-pub line-later : (r : Reading) (k : ℕ) → (k ≡ 0 → ⊥) → lineOf r k ≡ laterLine r (k - 1)
+pub line-later : (r : Judgement) (k : ℕ) → (k ≡ 0 → ⊥) → lineOf r k ≡ laterLine r (k - 1)
 unfolding lineOf
 line-later r k e = rw (ne-eqb k 0 e)
 
@@ -88,7 +88,7 @@ first-fits Accepted events place = simp length-append (omega (arith, decimal-le 
 first-fits (Refused r) events place =
     simp length-append (omega (arith, decimal-le (numberOf r), decimal-le events, decimal-le place))
 
-transaction-fits : (r : Reading) (t : ℕ) → length (transactionLine r t) < mostText
+transaction-fits : (r : Judgement) (t : ℕ) → length (transactionLine r t) < mostText
 transaction-fits r t = simp length-append (omega (arith, decimal-le t, phase-le (phaseOf (r .state .transactions) t)))
 
 operation-fits : (q : ℕ) (op : Operation) → length (operationLineOf q op) < mostText
@@ -96,7 +96,7 @@ operation-fits q op =
     simp length-append
     (omega (arith, decimal-le q, decimal-le (op .object), mark-le (op .mark), decimal-le (op .responsible), fate-le (op .fate)))
 
-saga-fits : (r : Reading) (i : ℕ) → length (sagaLine r i) < mostText
+saga-fits : (r : Judgement) (i : ℕ) → length (sagaLine r i) < mostText
 saga-fits r i =
     simp length-append
     (omega (arith, decimal-le i, decimal-le (outstanding (r .tables) (r .state) i), step-le (closing (r .tables) (r .state) i)))
@@ -105,7 +105,7 @@ either-fits : (b : Bool) (x y : List ℕ) → length x < mostText → length y <
 either-fits true x y l m = l
 either-fits false x y l m = m
 
-pub line-fits : (r : Reading) (k : ℕ) → length (lineOf r k) < mostText
+pub line-fits : (r : Judgement) (k : ℕ) → length (lineOf r k) < mostText
 unfolding lineOf laterLine
 line-fits r k =
     either-fits (eqb k 0) _ _ (first-fits (r .answer) (r .events) (r .place))
@@ -115,12 +115,21 @@ line-fits r k =
     (saga-fits r (k - 1 - transactionCount (r .tables) - size (r .state .ops)))))
 
 -- so a text that was made for a line is the line
-pub line-whole : (r : Reading) (k : ℕ) {l : List ℕ} → l ≡ withAll [] (lineOf r k) → l ≡ lineOf r k
+pub line-whole : (r : Judgement) (k : ℕ) {l : List ℕ} → l ≡ withAll [] (lineOf r k) → l ≡ lineOf r k
 line-whole r k e = let h = line-fits r k in e ∙ all-fits [] (lineOf r k) (omega arith)
+
+no-fits : (x : No) → length (noLine x) < mostText
+no-fits x = simp length-append (omega (arith, decimal-le (x .index), decimal-le (numberOf (x .refusal))))
+
+pub no-whole : (x : No) {l : List ℕ} → l ≡ withAll [] (noLine x) → l ≡ noLine x
+no-whole x e = let h = no-fits x in e ∙ all-fits [] (noLine x) (omega arith)
+
+pub no-size : (x : No) → (0 < length (noLine x)) × (length (noLine x) ≤ mostText)
+no-size x = let h = no-fits x in (simp length-append (omega arith), omega arith)
 
 -- ---- into a room
 
-module _ (r : Reading) (k : ℕ) (room : List ℕ) where
+module _ (r : Judgement) (k : ℕ) (room : List ℕ) where
   pub place-none : lineCount r ≤ k → (NoLine ≡ placeAnswer r k room) × (room ≡ placeRoom r k room)
   unfolding placeAnswer placeRoom
   place-none h = let t = le-leb (lineCount r) k h in (rw t, rw t)

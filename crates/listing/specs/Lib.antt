@@ -3,3 +3,4 @@ pub mod Words
 pub mod Texts
 pub mod Lines
 pub mod Promises
+pub mod Books

@@ -1,10 +1,12 @@
 -- The listing (docs/RULES.md, 7 The listing): "Line 1: events accepted; or `book refused`, number, events, place. `t`: number, state. `op`: number,
 -- object, mark, responsible, state. `saga`: index, outstanding, closing step and its transaction, or `none`. The kinds of line come in this order,
 -- each by rising number. If the tables are refused only line 1 is printed." Refused tables are empty, so that no other line is left then.
-use Prim.Native.Nat.{ℕ, _+_, _-_}
+use Prim.Native.Nat.{ℕ, zero, suc, _+_, _-_, _≤_}
+use mathlib.Core.Path.{_≡_}
 use mathlib.Core.Bool.{cond}
-use mathlib.Core.List.{List, _++_}
+use mathlib.Core.List.{List, [], _∷_, _++_}
 use lib.Dec.{ltb, leb, eqb}
+use lib.ListN.{take}
 use Rattle.terms.specs.Refusals.{numberOf}
 use Rattle.terms.specs.declared.Verdict.{Verdict}
 use Rattle.terms.specs.declared.Verdict.the-variants.{Accepted, Refused}
@@ -21,13 +23,20 @@ use Rattle.rules.specs.declared.Phase.the-variants.{Idle, Active, Committed, Ab
 use Rattle.closing.specs.Closing.{outstanding, closing}
 use Rattle.closing.specs.declared.NextStep.{NextStep}
 use Rattle.closing.specs.declared.NextStep.the-variants.{NoStep, ToBegin, ToCommit, ToAbort}
-use Rattle.book.specs.declared.Reading.{Reading}
+use Rattle.tables.specs.declared.Circles.{Circles}
+use Rattle.tables.specs.declared.Tables.{Tables}
+use Rattle.rules.specs.declared.State.{State}
+use Rattle.walk.specs.declared.Cursor.{Cursor}
+use Rattle.onward.specs.Onward.{judgementBy, refusedAfter, refusedBy}
+use Rattle.onward.specs.declared.Judgement.{Judgement}
+use Rattle.onward.specs.declared.No.{No}
+use Rattle.listing.specs.declared.Piece.{Piece}
 use Rattle.listing.specs.declared.Placed.{Placed}
 use Rattle.listing.specs.declared.Placed.the-variants.{Wrote, NoRoom, NoLine}
 use Rattle.listing.specs.declared.Put.{Put}
 use Rattle.listing.specs.declared.Put.the-variants.{Wrote as PutWrote, NoRoom as PutNoRoom}
 use Rattle.listing.specs.Texts.{putAnswer, putRoom}
-use Rattle.listing.specs.Words.{bookAccepted, bookRefused, transactionWord, operationWord, sagaWord, idleWord, activeWord, committedWord, abortedWord, readWord, writeWord, noneWord, beginWord, commitWord, abortWord, blank, lineFeed, decimal}
+use Rattle.listing.specs.Words.{bookAccepted, bookRefused, transactionWord, operationWord, sagaWord, noWord, idleWord, activeWord, committedWord, abortedWord, readWord, writeWord, noneWord, beginWord, commitWord, abortWord, blank, lineFeed, decimal}
 
 -- ---- the words of states, marks and steps
 
@@ -58,7 +67,7 @@ abbrev pub firstLineBy : Verdict → ℕ → ℕ → List ℕ
 firstLineBy Accepted events place = bookAccepted ++ (decimal events ++ lineFeed)
 firstLineBy (Refused r) events place = bookRefused ++ (decimal (numberOf r) ++ (blank ++ (decimal events ++ (blank ++ (decimal place ++ lineFeed)))))
 
-abbrev pub transactionLine : Reading → ℕ → List ℕ
+abbrev pub transactionLine : Judgement → ℕ → List ℕ
 transactionLine r t = transactionWord ++ (decimal t ++ (blank ++ (phaseWord (phaseOf (r .state .transactions) t) ++ lineFeed)))
 
 abbrev pub operationLineOf : ℕ → Operation → List ℕ
@@ -66,28 +75,62 @@ operationLineOf q op =
     operationWord
     ++ (decimal q ++ (blank ++ (decimal (op .object) ++ (blank ++ (markWord (op .mark) ++ (blank ++ (decimal (op .responsible) ++ (blank ++ (fateWord (op .fate) ++ lineFeed)))))))))
 
-abbrev pub operationLine : Reading → ℕ → List ℕ
+abbrev pub operationLine : Judgement → ℕ → List ℕ
 operationLine r q = operationLineOf q (opAt (r .state .ops) q)
 
-abbrev pub sagaLine : Reading → ℕ → List ℕ
+abbrev pub sagaLine : Judgement → ℕ → List ℕ
 sagaLine r i =
     sagaWord ++ (decimal i ++ (blank ++ (decimal (outstanding (r .tables) (r .state) i) ++ (blank ++ (stepWords (closing (r .tables) (r .state) i) ++ lineFeed)))))
 
--- ---- which line is which
+-- 'no 12 16': the event of index 12 was refused by 16
+abbrev pub noLine : No → List ℕ
+noLine x = noWord ++ (decimal (x .index) ++ (blank ++ (decimal (numberOf (x .refusal)) ++ lineFeed)))
 
-unfoldable pub lineCount : Reading → ℕ
+-- those of refused events, one after another
+unfoldable pub noLines : List No → List ℕ
+noLines [] = []
+noLines (x ∷ xs) = noLine x ++ noLines xs
+
+-- ---- which line is which; the lines of refused events stand between the first and the later ones
+
+unfoldable pub lineCount : Judgement → ℕ
 lineCount r = 1 + (transactionCount (r .tables) + (size (r .state .ops) + sagaCount (r .tables)))
 
 -- the k-th of those after the first
-unfoldable pub laterLine : Reading → ℕ → List ℕ
+unfoldable pub laterLine : Judgement → ℕ → List ℕ
 laterLine r k =
     cond (ltb k (transactionCount (r .tables))) (transactionLine r k)
     (cond (ltb (k - transactionCount (r .tables)) (size (r .state .ops))) (operationLine r (k - transactionCount (r .tables)))
     (sagaLine r (k - transactionCount (r .tables) - size (r .state .ops))))
 
 -- line k, counted from 0
-unfoldable pub lineOf : Reading → ℕ → List ℕ
+unfoldable pub lineOf : Judgement → ℕ → List ℕ
 lineOf r k = cond (eqb k 0) (firstLineBy (r .answer) (r .events) (r .place)) (laterLine r (k - 1))
+
+-- ---- the whole listing: "The `no` lines follow line 1."
+
+-- the later lines from the k-th on, so many of them
+unfoldable pub linesFrom : Judgement → ℕ → ℕ → List ℕ
+linesFrom r k zero = []
+linesFrom r k (suc n) = lineOf r k ++ linesFrom r (k + 1) n
+
+unfoldable pub listingOf : Judgement → List No → List ℕ
+listingOf r refused = lineOf r 0 ++ (noLines refused ++ linesFrom r 1 (lineCount r - 1))
+
+-- of a book, read on past its refused events
+abbrev pub listingBy : Circles → ℕ → List ℕ → List ℕ
+listingBy circles cap s = listingOf (judgementBy circles cap s) (refusedBy circles cap s)
+
+-- no listing is longer: the `no` lines of at most 32,768 events have at most 12 bytes each, and at most 337 other lines at most 95 bytes each
+abbrev pub mostListing : ℕ
+mostListing = 425231
+
+-- ---- the lines of refused events as they come in a second pass: a piece of them at the front of a room, and those that are still to come behind it
+
+pub record PutRefused (tables : Tables) (cap : ℕ) (s : List ℕ) (before : State) (c : Cursor) (piece : Piece) (after : State) (room : List ℕ) : Type 0 where
+  pub bytes : noLines (refusedAfter tables cap s before c)
+      ≡ take (piece .bytes) room ++ noLines (cond (piece .done) [] (refusedAfter tables cap s after (piece .cursor)))
+  pub cursor : piece .cursor .index ≤ piece .cursor .place
 
 -- ---- into a lent room: the line at its front and the rest as it was; or nothing is touched
 
@@ -95,8 +138,8 @@ abbrev pub placed : Put → Placed
 placed (PutWrote n) = Wrote n
 placed PutNoRoom = NoRoom
 
-unfoldable pub placeAnswer : Reading → ℕ → List ℕ → Placed
+unfoldable pub placeAnswer : Judgement → ℕ → List ℕ → Placed
 placeAnswer r k room = cond (leb (lineCount r) k) NoLine (placed (putAnswer (lineOf r k) room))
 
-unfoldable pub placeRoom : Reading → ℕ → List ℕ → List ℕ
+unfoldable pub placeRoom : Judgement → ℕ → List ℕ → List ℕ
 placeRoom r k room = cond (leb (lineCount r) k) room (putRoom (lineOf r k) room)

@@ -8,8 +8,11 @@ use Rattle.terms.specs.declared.Refusal.the-variants.{SagaRule}
 use Rattle.terms.specs.declared.Verdict.the-variants.{Accepted, Refused}
 use Rattle.ties.specs.declared.Fate.the-variants.{Aborted as FateAborted, Active as FateActive, Committed as FateCommitted}
 use Rattle.rules.specs.declared.Phase.the-variants.{Aborted, Active, Committed, Idle}
+use Rattle.tables.specs.declared.Circles.{Circles}
 use Rattle.closing.specs.declared.NextStep.the-variants.{NoStep, ToAbort, ToBegin, ToCommit}
-use Rattle.listing.specs.Lines.{fateWord, firstLineBy, markWord, phaseWord, stepWords}
+use Rattle.book.specs.Reading.{readingBy}
+use Rattle.onward.specs.Onward.{judgementTo}
+use Rattle.listing.specs.Lines.{fateWord, firstLineBy, listingBy, listingOf, markWord, mostListing, phaseWord, stepWords}
 use Rattle.listing.specs.Texts.{mostText, withAll}
 use Rattle.listing.specs.Words.{decimal}
 
@@ -45,3 +48,12 @@ pub record Spelled : Type 0 where
   -- 'book accepted 12' and 'book refused 13 9 30', each with its line feed
   pub accepted : firstLineBy Accepted 12 0 ≡ 98 ∷ 111 ∷ 111 ∷ 107 ∷ 32 ∷ 97 ∷ 99 ∷ 99 ∷ 101 ∷ 112 ∷ 116 ∷ 101 ∷ 100 ∷ 32 ∷ 49 ∷ 50 ∷ 10 ∷ []
   pub refused : firstLineBy (Refused SagaRule) 9 30 ≡ 98 ∷ 111 ∷ 111 ∷ 107 ∷ 32 ∷ 114 ∷ 101 ∷ 102 ∷ 117 ∷ 115 ∷ 101 ∷ 100 ∷ 32 ∷ 49 ∷ 51 ∷ 32 ∷ 57 ∷ 32 ∷ 51 ∷ 48 ∷ 10 ∷ []
+
+-- ---- a room of this size holds every listing, in both ways
+
+pub record ListingFits (circles : Circles) (cap : ℕ) (s : List ℕ) : Type 0 where
+  pub read-on : length (listingBy circles cap s) ≤ mostListing
+  pub to-first-refusal : length (listingOf (judgementTo (readingBy circles cap s)) []) ≤ mostListing
+
+abbrev pub ListingsFit : Type 0
+ListingsFit = (circles : Circles) (cap : ℕ) (s : List ℕ) → ListingFits circles cap s

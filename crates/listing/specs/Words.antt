@@ -20,6 +20,10 @@ transactionWord = 116 ∷ 32 ∷ []
 abbrev pub operationWord : List ℕ
 operationWord = 111 ∷ 112 ∷ 32 ∷ []
 
+-- 'no '
+abbrev pub noWord : List ℕ
+noWord = 110 ∷ 111 ∷ 32 ∷ []
+
 -- 'saga '
 abbrev pub sagaWord : List ℕ
 sagaWord = 115 ∷ 97 ∷ 103 ∷ 97 ∷ 32 ∷ []

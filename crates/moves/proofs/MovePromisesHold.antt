@@ -31,9 +31,10 @@ use Rattle.closing.specs.Demand.{Closes, Demand, allForeign}
 use Rattle.closing.specs.declared.NextStep.{NextStep}
 use Rattle.closing.specs.declared.NextStep.the-variants.{NoStep, ToAbort, ToBegin, ToCommit}
 use Rattle.closing.proofs.Demand3Holds.{demand3-read}
-use Rattle.book.specs.Demands.{eventsOf}
-use Rattle.book.specs.Reading.{readingOf}
-use Rattle.book.proofs.DemandsHold.{demand2}
+use Rattle.items.specs.Items.{itemsAfter}
+use Rattle.onward.specs.Onward.{eventsIn, judgementOf, judgementOn}
+use Rattle.onward.specs.declared.Judgement.{Judgement}
+use Rattle.onward.proofs.ReadingOnHolds.{reading-on-holds}
 use Rattle.moves.specs.Moves.{eventBy, eventFor, partBy, partOf, sagaCommitted, todoBy, todoFor, transactionBy, wordFor}
 use Rattle.moves.specs.Promises.{BackedOut, HasCommitted, MovePromises, NextThing, Words}
 use Rattle.moves.proofs.SaidHolds.{said-holds}
@@ -245,14 +246,17 @@ module _ (tables : Tables) (es : List Event) (i : ℕ) (demand : Demand tables i
 -- ---- of books
 
 next-read : (s : List ℕ) (at : ℕ) → length s ≤ mostBytes → tablesBy Forbidden ceiling1 s .answer ≡ Read at
-    → (i : ℕ) → isListed (readingOf ceiling1 s .tables) i ≡ true → NextThing (readingOf ceiling1 s .tables) (readingOf ceiling1 s .state) i
+    → (i : ℕ) → isListed (judgementOf ceiling1 s .tables) i ≡ true → NextThing (judgementOf ceiling1 s .tables) (judgementOf ceiling1 s .state) i
+unfolding judgementOn
 next-read s at small read i listed =
-    let r = demand2 .reads Forbidden ceiling1 s at small read in
+    let r = reading-on-holds .reads Forbidden ceiling1 s at small read .judgement in
     let T = tablesBy Forbidden ceiling1 s .tables in
-    let es = eventsOf Forbidden ceiling1 s at in
-    let there : i < sagaCount T = ltb-true i (sagaCount T) (sym (ap (λ (t : Tables). isListed t i) (r .tables)) ∙ listed) in
-    subst⁻¹ (λ (t : Tables). NextThing t (readingOf ceiling1 s .state) i) (r .tables)
-    (subst⁻¹ (λ (x : State). NextThing T x i) (r .led-to) (next-reached T es i (demand3-read Forbidden ceiling1 s at read i (omega arith))))
+    let es = eventsIn (itemsAfter ceiling1 s at) in
+    let tables = ap (λ (x : Judgement). x .tables) r in
+    let state = ap (λ (x : Judgement). x .state) r in
+    let there : i < sagaCount T = ltb-true i (sagaCount T) (sym (ap (λ (t : Tables). isListed t i) tables) ∙ listed) in
+    subst⁻¹ (λ (t : Tables). NextThing t (judgementOf ceiling1 s .state) i) tables
+    (subst⁻¹ (λ (x : State). NextThing T x i) state (next-reached T es i (demand3-read Forbidden ceiling1 s at read i (omega arith))))
 
 pub move-promises : MovePromises
 move-promises = record { words = words; next = next-read; said = said-holds }

@@ -1,4 +1,4 @@
--- What is said of a plan and the reading of a book: one line where either is refused, else every line whole.
+-- What is said of a plan and the judgement of a book: one line where either is refused, else every line whole.
 use Prim.Native.Nat.{ℕ, _+_, _-_, _≤_, _<_}
 use native.Mathlib.Omega.{arith}
 use mathlib.Core.Path.{_≡_, refl, sym, ap, _∙_}
@@ -13,7 +13,7 @@ use Rattle.plan.specs.Verdict.{planNumber, planVerdict, refusalNumber}
 use Rattle.plan.specs.declared.PlanRefusal.{PlanRefusal}
 use Rattle.plan.specs.declared.PlanVerdict.the-variants.{Fits}
 use Rattle.plan.proofs.JudgingHolds.{judging-holds}
-use Rattle.book.specs.declared.Reading.{Reading}
+use Rattle.onward.specs.declared.Judgement.{Judgement}
 use Rattle.listing.specs.Words.{decimal}
 use Rattle.listing.proofs.TextPromisesHold.{text-promises}
 use Rattle.moves.specs.Lines.{acceptedLine, leftLine, listLine, moveLine, partLetters, planLine, shown, stepLetters, todoLetters, toldLine, wordLetters}
@@ -68,7 +68,7 @@ module _ (names ends steps : List ℕ) (short : (k : ℕ) → length (nameAt nam
       text-promises .fits [] (moveLine names ends steps i t) (simp length-append (omega (arith, short (moveName steps i), todo-le i t)))
 
 -- a line behind that of how much is left
-below : (names ends steps lists : List ℕ) (r : Reading) (k : ℕ) → acceptedLine names ends steps lists r (1 + k) ≡ toldLine names ends steps lists r k
+below : (names ends steps lists : List ℕ) (r : Judgement) (k : ℕ) → acceptedLine names ends steps lists r (1 + k) ≡ toldLine names ends steps lists r k
 below names ends steps lists r k =
     let back : 1 + k - 1 ≡ k = omega arith in
     sym (accepted-told names ends steps lists r (1 + k) (λ z. omega arith)) ∙ ap (toldLine names ends steps lists r) back
@@ -85,7 +85,7 @@ module _ (names ends steps lists : List ℕ) (fits : planVerdict names ends step
       at-most true t none = absurd (none (k, ltb-true 24 (length (nameAt names ends k)) t))
       at-most false t none = ltb-false 24 (length (nameAt names ends k)) t
 
-pub said-holds : (names ends steps lists : List ℕ) (r : Reading) → Said names ends steps lists r
+pub said-holds : (names ends steps lists : List ℕ) (r : Judgement) → Said names ends steps lists r
 said-holds names ends steps lists r =
     record {
       plan-first = λ x e. (sym (count-unfit names ends steps lists r x (sym e)), λ k. sym (said-unfit names ends steps lists r k x (sym e)) ∙ plan-whole x);

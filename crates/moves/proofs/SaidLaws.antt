@@ -24,7 +24,7 @@ use Rattle.plan.specs.Verdict.{planVerdict}
 use Rattle.plan.specs.declared.PlanRefusal.{PlanRefusal}
 use Rattle.plan.specs.declared.PlanVerdict.{PlanVerdict}
 use Rattle.plan.specs.declared.PlanVerdict.the-variants.{Fits, Refused as Unfit}
-use Rattle.book.specs.declared.Reading.{Reading}
+use Rattle.onward.specs.declared.Judgement.{Judgement}
 use Rattle.listing.specs.Lines.{lineOf}
 use Rattle.listing.specs.Texts.{withAll}
 use Rattle.listing.specs.Words.{decimal}
@@ -105,7 +105,7 @@ module _ (names ends steps : List ℕ) (i k n : ℕ) (e : n ≡ getD steps i 0) 
 
 -- ---- which line it is
 
-module _ (names ends steps lists : List ℕ) (r : Reading) (k : ℕ) where
+module _ (names ends steps lists : List ℕ) (r : Judgement) (k : ℕ) where
   pub told-list : k < length lists → shown (listLine names ends steps k (wordFor (r .tables) (r .state) (getD lists k 0))) ≡ toldLine names ends steps lists r k
   told-list h = rw (lt-ltb k (length lists) h)
 
@@ -133,7 +133,7 @@ module _ (names ends steps lists : List ℕ) (r : Reading) (k : ℕ) where
     unfolding saidLine
     said-told e = ap (λ (v : Verdict). byBook names ends steps lists r v k) e ∙ ap (λ (v : PlanVerdict). byPlan names ends steps lists r v k) fits
 
-module _ (names ends steps lists : List ℕ) (r : Reading) where
+module _ (names ends steps lists : List ℕ) (r : Judgement) where
   pub count-unfit : (x : PlanRefusal) → Unfit x ≡ planVerdict names ends steps lists → 1 ≡ saidLines names ends steps lists r
   unfolding saidLines
   count-unfit x e = ap (λ (v : PlanVerdict). countByPlan names ends steps lists r v) e

@@ -13,7 +13,7 @@ use Rattle.plan.specs.Verdict.{planVerdict, refusalNumber}
 use Rattle.plan.specs.declared.PlanRefusal.{PlanRefusal}
 use Rattle.plan.specs.declared.PlanVerdict.{PlanVerdict}
 use Rattle.plan.specs.declared.PlanVerdict.the-variants.{Fits, Refused as Unfit}
-use Rattle.book.specs.declared.Reading.{Reading}
+use Rattle.onward.specs.declared.Judgement.{Judgement}
 use Rattle.listing.specs.Lines.{lineOf}
 use Rattle.listing.specs.Texts.{withAll}
 use Rattle.listing.specs.Words.{decimal, lineFeed}
@@ -65,13 +65,13 @@ leftLine n = leftHead ++ (decimal n ++ lineFeed)
 abbrev pub planLine : PlanRefusal → List ℕ
 planLine r = planRefused ++ (decimal (refusalNumber r) ++ (noEvents ++ lineFeed))
 
--- ---- the lines of a plan and the reading of its book
+-- ---- the lines of a plan and the judgement of its book
 
 -- what a text shows of a line: all of it, where no name is longer than a plan's may be
 abbrev pub shown : List ℕ → List ℕ
 shown l = withAll [] l
 
-module _ (names ends steps lists : List ℕ) (r : Reading) where
+module _ (names ends steps lists : List ℕ) (r : Judgement) where
   abbrev pub toldLine : ℕ → List ℕ
   toldLine k =
       cond (ltb k (length lists))

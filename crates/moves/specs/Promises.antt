@@ -23,8 +23,8 @@ use Rattle.left.specs.Left.{leftIn}
 use Rattle.plan.specs.Verdict.{planVerdict}
 use Rattle.plan.specs.declared.PlanRefusal.{PlanRefusal}
 use Rattle.plan.specs.declared.PlanVerdict.the-variants.{Fits, Refused as Unfit}
-use Rattle.book.specs.Reading.{readingOf}
-use Rattle.book.specs.declared.Reading.{Reading}
+use Rattle.onward.specs.Onward.{judgementOf}
+use Rattle.onward.specs.declared.Judgement.{Judgement}
 use Rattle.listing.specs.Lines.{lineOf}
 use Rattle.moves.specs.Lines.{leftLine, listLine, moveLine, planLine, saidLine, saidLines}
 use Rattle.moves.specs.Moves.{eventFor, todoFor, wordFor}
@@ -59,8 +59,8 @@ pub record NextThing (tables : Tables) (s : State) (i : ℕ) : Type 0 where
   pub accepted : (e : Event) → eventFor tables i (todoFor tables s i) ≡ some e → judged tables s e .verdict ≡ Accepted
   pub lowers : (e : Event) → eventFor tables i (todoFor tables s i) ≡ some e → outstanding tables (judged tables s e .state) i + 1 ≡ outstanding tables s i
 
--- what is said of a plan and the reading of a book
-pub record Said (names ends steps lists : List ℕ) (r : Reading) : Type 0 where
+-- what is said of a plan and the judgement of a book
+pub record Said (names ends steps lists : List ℕ) (r : Judgement) : Type 0 where
   -- where the plan is refused that is all that is said, and else where the book is refused
   pub plan-first : (x : PlanRefusal) → planVerdict names ends steps lists ≡ Unfit x
       → (saidLines names ends steps lists r ≡ 1) × ((k : ℕ) → saidLine names ends steps lists r k ≡ planLine x)
@@ -79,6 +79,6 @@ pub record MovePromises : Type 0 where
   pub words : (tables : Tables) (s : State) (i : ℕ) → Words tables s i
   -- of every book whose tables are accepted, and every saga in it
   pub next : (s : List ℕ) (at : ℕ) → length s ≤ mostBytes → tablesBy Forbidden ceiling1 s .answer ≡ Read at
-      → (i : ℕ) → isListed (readingOf ceiling1 s .tables) i ≡ true → NextThing (readingOf ceiling1 s .tables) (readingOf ceiling1 s .state) i
-  -- of any plan and any reading
-  pub said : (names ends steps lists : List ℕ) (r : Reading) → Said names ends steps lists r
+      → (i : ℕ) → isListed (judgementOf ceiling1 s .tables) i ≡ true → NextThing (judgementOf ceiling1 s .tables) (judgementOf ceiling1 s .state) i
+  -- of any plan and any judgement
+  pub said : (names ends steps lists : List ℕ) (r : Judgement) → Said names ends steps lists r

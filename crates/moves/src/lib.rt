@@ -2,9 +2,9 @@
 //
 // It relies on the contracts of the crates below, and on the proofs of promises that docs/PROMISES.md names; on no other law of theirs.
 // .ci/relies holds it to that.
-use book::Reading;
 use closing::NextStep;
 use listing::Text;
+use onward::Judgement;
 use plan::PlanRefusal;
 use plan::PlanVerdict;
 use rules::State;
@@ -204,13 +204,13 @@ fn told_line(
     ends: &[u32],
     steps: &[u16],
     lists: &[u16],
-    reading: Reading,
+    judgement: Judgement,
     k: usize,
 ) -> Text
-    ensures { λ r. ⌜ textOf r ≡ toldLine (now (names .entry)) (now (ends .entry)) (now (steps .entry)) (now (lists .entry)) reading k ⌝ }
+    ensures { λ r. ⌜ textOf r ≡ toldLine (now (names .entry)) (now (ends .entry)) (now (steps .entry)) (now (lists .entry)) judgement k ⌝ }
 {
-    let tables = reading.tables;
-    let state = reading.state;
+    let tables = judgement.tables;
+    let state = judgement.state;
     if k < lists.len() {
         let word = list_word(tables, state, lists[k] as usize);
         return list_line(names, ends, steps, k, word);
@@ -226,19 +226,19 @@ fn accepted_line(
     ends: &[u32],
     steps: &[u16],
     lists: &[u16],
-    reading: Reading,
+    judgement: Judgement,
     k: usize,
 ) -> Text
-    ensures { λ r. ⌜ textOf r ≡ acceptedLine (now (names .entry)) (now (ends .entry)) (now (steps .entry)) (now (lists .entry)) reading k ⌝ }
+    ensures { λ r. ⌜ textOf r ≡ acceptedLine (now (names .entry)) (now (ends .entry)) (now (steps .entry)) (now (lists .entry)) judgement k ⌝ }
 {
     if k == 0 {
-        let tables = reading.tables;
-        let state = reading.state;
+        let tables = judgement.tables;
+        let state = judgement.state;
         let left = left::left_of(tables, state);
         return left_line(left);
     }
     let behind = k - 1;
-    told_line(names, ends, steps, lists, reading, behind)
+    told_line(names, ends, steps, lists, judgement, behind)
 }
 
 // How many lines there are to read.
@@ -247,14 +247,14 @@ pub fn line_count(
     ends: &[u32],
     steps: &[u16],
     lists: &[u16],
-    reading: Reading,
+    judgement: Judgement,
 ) -> usize
-    ensures { λ r. ⌜ r ≡ saidLines (now (names .entry)) (now (ends .entry)) (now (steps .entry)) (now (lists .entry)) reading ⌝ }
+    ensures { λ r. ⌜ r ≡ saidLines (now (names .entry)) (now (ends .entry)) (now (steps .entry)) (now (lists .entry)) judgement ⌝ }
 {
     let PlanVerdict::Fits = plan::judged(names, ends, steps, lists) else {
         return 1;
     };
-    let answer = reading.answer;
+    let answer = judgement.answer;
     let Verdict::Accepted = answer else {
         return 1;
     };
@@ -268,17 +268,17 @@ pub fn line(
     ends: &[u32],
     steps: &[u16],
     lists: &[u16],
-    reading: Reading,
+    judgement: Judgement,
     k: usize,
 ) -> Text
-    ensures { λ r. ⌜ textOf r ≡ saidLine (now (names .entry)) (now (ends .entry)) (now (steps .entry)) (now (lists .entry)) reading k ⌝ }
+    ensures { λ r. ⌜ textOf r ≡ saidLine (now (names .entry)) (now (ends .entry)) (now (steps .entry)) (now (lists .entry)) judgement k ⌝ }
 {
     if let PlanVerdict::Refused(refusal) = plan::judged(names, ends, steps, lists) {
         return plan_line(refusal);
     }
-    let answer = reading.answer;
+    let answer = judgement.answer;
     let Verdict::Accepted = answer else {
-        return listing::line(reading, 0);
+        return listing::line(judgement, 0);
     };
-    accepted_line(names, ends, steps, lists, reading, k)
+    accepted_line(names, ends, steps, lists, judgement, k)
 }

@@ -1,7 +1,6 @@
 // Reads a book from standard input and writes its listing to standard output. The word `permit-circles` reads a book whose tables wait for
-// each other in a circle, too; the word `replay` asks for the order to replay the committed changes in. What it could not read, write or understand it
-// says on standard error, and nothing else stands there.
-use book::Reading;
+// each other in a circle, too; the word `first-refusal` stops at the first refused event, as it was once; the word `replay` asks for the order to replay the committed
+// changes in. What it could not read, write or understand it says on standard error, and nothing else stands there.
 use input::Filled;
 use libc::STDERR_FILENO;
 use libc::STDIN_FILENO;
@@ -9,11 +8,20 @@ use libc::STDOUT_FILENO;
 use listing::Placed;
 use listing::Put;
 use listing::Text;
+use number::Number;
+use onward::Judgement;
+use sheet::Sheet;
+use tables::Circles;
+use tables::TablesAnswer;
+use terms::Book;
+use ties::Operation;
+use walk::Cursor;
 
-// What can be told of a book: its listing, that of a book whose tables may wait in a circle, or the order to replay in.
+// What can be told of a book: its listing, that of a book whose tables may wait in a circle, its listing to the first refusal, or the order to replay in.
 enum Wish {
     Listing,
     ListingWithCircles,
+    ToFirstRefusal,
     Order,
 }
 
@@ -27,6 +35,9 @@ enum Asked {
 fn wish_of(word: &[u8]) -> Asked {
     if check::same(word, b"permit-circles") {
         return Asked::For(Wish::ListingWithCircles);
+    }
+    if check::same(word, b"first-refusal") {
+        return Asked::For(Wish::ToFirstRefusal);
     }
     if check::same(word, b"replay") {
         return Asked::For(Wish::Order);
@@ -48,27 +59,89 @@ fn asked_for() -> Asked {
     wish_of(&word[..n])
 }
 
-// Writes line k of a listing; whether all of it was taken.
-fn print_line(reading: Reading, k: usize) -> bool {
+// Writes line k, but for those of refused events; whether all of it was taken.
+fn print_line(judgement: Judgement, k: usize) -> bool {
     let mut room = [0u8; Text::MOST];
-    let placed = listing::put_line(reading, k, &mut room);
+    let placed = listing::put_line(judgement, k, &mut room);
     let Placed::Wrote(n) = placed else {
         return false;
     };
     io::write_all(STDOUT_FILENO, &room[..n])
 }
 
-// Writes the lines of a listing one after another, and stops at one that is not taken whole; whether all were.
-fn print_listing(reading: Reading) -> bool {
-    let lines = listing::line_count(reading);
-    let mut k: usize = 0;
+// Writes the lines of refused events from the first event on, a piece at a time; whether all were taken. A piece has at least one of them.
+fn print_pieces(book: &[u8], sheet: &[u32; Sheet::NUMBERS], start: usize, refused: usize) -> bool {
+    let mut transactions = [0u32; Book::TRANSACTIONS];
+    let mut ops = [0u32; Operation::MOST];
+    let mut room = [0u8; 4096];
+    let mut cursor = Cursor {
+        place: start,
+        index: 0,
+        count: 0,
+    };
+    let mut left = refused;
+    while 0 < left {
+        let piece = listing::put_refused(
+            book,
+            Number::MOST,
+            sheet,
+            &mut transactions,
+            &mut ops,
+            cursor,
+            &mut room,
+        );
+        let n = piece.bytes;
+        if !io::write_all(STDOUT_FILENO, &room[..n]) {
+            return false;
+        }
+        if piece.done {
+            return true;
+        }
+        cursor = piece.cursor;
+        left -= 1;
+    }
+    true
+}
+
+// Writes the lines of so many refused events, which a second pass over the book makes; whether all were taken.
+fn print_refused(book: &[u8], circles: Circles, refused: usize) -> bool {
+    if refused == 0 {
+        return true;
+    }
+    let read = tables::read_tables(book, Number::MOST, circles);
+    let answer = read.answer;
+    let tables = read.tables;
+    match answer {
+        TablesAnswer::Read(start) => {
+            let sheet = sheet::sheet_of(tables);
+            print_pieces(book, &sheet, start, refused)
+        }
+        TablesAnswer::Refused(_, _) => true,
+    }
+}
+
+// Writes the lines behind those of refused events; whether all were taken.
+fn print_later(judgement: Judgement) -> bool {
+    let lines = listing::line_count(judgement);
+    let mut k: usize = 1;
     while k < lines {
-        if !print_line(reading, k) {
+        if !print_line(judgement, k) {
             return false;
         }
         k += 1;
     }
     true
+}
+
+// Writes the listing of a book that was judged so, and stops at a line that is not taken whole; whether all were.
+fn print_listing(book: &[u8], circles: Circles, judgement: Judgement) -> bool {
+    if !print_line(judgement, 0) {
+        return false;
+    }
+    if !print_refused(book, circles, judgement.refused) {
+        return false;
+    }
+    print_later(judgement)
 }
 
 // Writes a number on a line of its own; whether all of it was taken.
@@ -82,8 +155,8 @@ fn print_number(n: usize) -> bool {
 }
 
 // Writes the transactions in the order to replay in, and stops at one that is not taken whole; whether all were.
-fn print_order(reading: Reading) -> bool {
-    let state = reading.state;
+fn print_order(judgement: Judgement) -> bool {
+    let state = judgement.state;
     let ops = state.ops;
     let order = replay::order_of(ops);
     let mut i: usize = 0;
@@ -97,14 +170,14 @@ fn print_order(reading: Reading) -> bool {
     true
 }
 
-fn list(reading: Reading) {
-    if !print_listing(reading) {
+fn list(bytes: &[u8], circles: Circles, judgement: Judgement) {
+    if !print_listing(bytes, circles, judgement) {
         os::fail(b"sagabook: the listing was not written whole");
     }
 }
 
-fn list_order(reading: Reading) {
-    if !print_order(reading) {
+fn list_order(judgement: Judgement) {
+    if !print_order(judgement) {
         os::fail(b"sagabook: the order was not written whole");
     }
 }
@@ -112,9 +185,22 @@ fn list_order(reading: Reading) {
 // Tells of the book in these bytes what is wished.
 fn tell_of(wish: Wish, bytes: &[u8]) {
     match wish {
-        Wish::Listing => list(book::read(bytes)),
-        Wish::ListingWithCircles => list(book::read_permitting_circles(bytes)),
-        Wish::Order => list_order(book::read(bytes)),
+        Wish::Listing => list(bytes, Circles::Forbidden, onward::read(bytes)),
+        Wish::ListingWithCircles => {
+            list(
+                bytes,
+                Circles::Permitted,
+                onward::read_permitting_circles(bytes),
+            )
+        }
+        Wish::ToFirstRefusal => {
+            list(
+                bytes,
+                Circles::Forbidden,
+                onward::read_to_first_refusal(bytes),
+            )
+        }
+        Wish::Order => list_order(onward::read(bytes)),
     }
 }
 
@@ -136,7 +222,7 @@ fn main() {
         Asked::Unknown => {
             io::write_all(
                 STDERR_FILENO,
-                b"usage: sagabook [permit-circles | replay] < BOOK\n",
+                b"usage: sagabook [permit-circles | first-refusal | replay] < BOOK\n",
             );
         }
     }

@@ -1,10 +1,11 @@
 -- The numbers of each answer, from what the functions below answered.
-use Prim.Native.Nat.{ℕ, _≤_}
+use Prim.Native.Nat.{ℕ, zero, suc, _/_, _%_, _<_, _≤_}
 use native.Mathlib.Omega.{arith}
-use mathlib.Core.Path.{_≡_, sym, ap, _∙_}
-use mathlib.Core.List.{List}
-use lib.ListN.{length, take, length-take}
-use lib.Seq.{length-take-le}
+use mathlib.Core.Path.{_≡_, refl, sym, ap, ap₂, _∙_}
+use mathlib.Core.Bool.{true, false}
+use mathlib.Core.List.{List, []}
+use borrow.Author.Tests.{lt-ltb, le-ltb}
+use lib.ListN.{length, take, length-take, drop-of-length-le}
 use Rattle.terms.specs.Refusals.{verdictNumber}
 use Rattle.terms.specs.declared.Refusal.{Refusal}
 use Rattle.number.specs.Number.{ceiling1}
@@ -13,47 +14,98 @@ use Rattle.closing.specs.Closing.{outstanding, closing}
 use Rattle.closing.specs.declared.NextStep.{NextStep}
 use Rattle.replay.specs.Replay.{orderOf, copyAnswer}
 use Rattle.replay.specs.declared.Copied.{Copied}
-use Rattle.book.specs.Reading.{openingOf}
 use Rattle.book.specs.Packing.{unpackOutcome, writeOutcome, writtenRoom}
-use Rattle.tables.specs.declared.Circles.the-variants.{Forbidden}
 use Rattle.book.specs.declared.Reading.{Reading}
 use Rattle.book.specs.declared.Outcome.{Outcome}
 use Rattle.book.specs.declared.Outcome.the-variants.{Wrote, Refuses}
-use Rattle.book.proofs.OpeningLaws.{opening-le}
 use Rattle.book.proofs.PackingLaws.{wrote-all}
-use Rattle.listing.specs.Lines.{placeAnswer}
-use Rattle.listing.specs.declared.Placed.{Placed}
-use Rattle.sagalib.specs.Numbers.{reading, four, readNumbers, outcomeNumbers, unpackNumbers, writeNumbers, lineOutcome, lineNumbers, orderOutcome, replayNumbers, stepNumbers, nextNumbers}
+use Rattle.tables.specs.declared.Circles.{Circles}
+use Rattle.tables.specs.declared.Circles.the-variants.{Forbidden, Permitted}
+use Rattle.book.specs.Reading.{readingBy}
+use Rattle.onward.specs.Onward.{fitting, flat, judgementBy, judgementTo, listedIn, refusedBy}
+use Rattle.onward.specs.declared.Judgement.{Judgement}
+use Rattle.onward.specs.declared.No.{No}
+use Rattle.listing.specs.Lines.{listingBy, listingOf}
+use Rattle.listing.specs.Texts.{putAnswer}
+use Rattle.listing.specs.declared.Put.{Put}
+use Rattle.sagalib.specs.Numbers.{reading, readsOn, circlesIn, judged, refusedIn, four, readNumbers, outcomeNumbers, unpackNumbers, writeNumbers, listingIn, listingOutcome, listingNumbers, orderOutcome, replayNumbers, stepNumbers, nextNumbers}
 
--- ---- reading, and what rests on a reading
+-- ---- one of the ways of reading, and what rests on it
 
--- the accepted opening is as long as the reading says
-opening-length : (s : List ℕ) → reading s .opening ≡ length (openingOf ceiling1 s)
-opening-length s = sym (length-take-le (reading s .opening) s (opening-le Forbidden ceiling1 s))
+pub circles-forbidden : (way : ℕ) → way % 4 < 2 → Forbidden ≡ circlesIn way
+circles-forbidden way h = rw (lt-ltb (way % 4) 2 h)
 
-module _ (s : List ℕ) (r : Reading) (read : r ≡ reading s) where
-  pub read-is : (number : ℕ) → number ≡ verdictNumber (r .answer) → four number (r .events) (r .place) (r .opening) ≡ readNumbers s
+pub circles-permitted : (way : ℕ) → 2 ≤ way % 4 → Permitted ≡ circlesIn way
+circles-permitted way h = rw (le-ltb (way % 4) 2 h)
+
+take-none : (n : ℕ) → _≡_ {A = List No} (take n []) []
+take-none zero = refl
+take-none (suc n) = refl
+
+-- of no events none fit a list
+none-fit : (skip room : ℕ) → fitting skip room [] ≡ []
+none-fit skip room = ap (take (room / 2)) (drop-of-length-le {A = No} [] {i = skip} (omega arith)) ∙ take-none (room / 2)
+
+refused-to : (way : ℕ) (s : List ℕ) → readsOn way ≡ false → refusedIn way s ≡ []
+unfolding refusedIn
+refused-to way s to = rw to
+
+-- a reading to the first refusal passes over none
+pub none-refused : (way : ℕ) (s : List ℕ) → readsOn way ≡ false → (skip : ℕ) (list : List ℕ)
+    → (0 ≡ length (fitting skip (length list) (refusedIn way s))) × (list ≡ listedIn list (fitting skip (length list) (refusedIn way s)))
+unfolding flat
+none-refused way s to skip list =
+    let none = ap (fitting skip (length list)) (refused-to way s to) ∙ none-fit skip (length list) in
+    (ap length (sym none), ap (listedIn list) (sym none))
+
+module _ (way : ℕ) (s : List ℕ) (circles : Circles) (c : circles ≡ circlesIn way) where
+  -- on past refused events
+  module _ (on : readsOn way ≡ true) where
+    pub judged-on : judgementBy circles ceiling1 s ≡ judged way s
+    unfolding judged
+    judged-on = rw (on, c)
+
+    pub refused-on : refusedBy circles ceiling1 s ≡ refusedIn way s
+    unfolding refusedIn
+    refused-on = rw (on, c)
+
+    pub listing-on : listingBy circles ceiling1 s ≡ listingIn way s
+    unfolding listingIn
+    listing-on = ap₂ listingOf judged-on refused-on
+
+  -- to the first refusal
+  module _ (to : readsOn way ≡ false) where
+    pub judged-to : judgementTo (readingBy circles ceiling1 s) ≡ judged way s
+    unfolding judged
+    judged-to = rw (to, c)
+
+    pub listing-to : listingOf (judgementTo (readingBy circles ceiling1 s)) [] ≡ listingIn way s
+    unfolding listingIn
+    listing-to = ap₂ listingOf judged-to (sym (refused-to way s to))
+
+module _ (way : ℕ) (s : List ℕ) (r : Judgement) (read : r ≡ judged way s) where
+  pub read-is : (number : ℕ) → number ≡ verdictNumber (r .answer) → four number (r .events) (r .place) (r .refused) ≡ readNumbers way s
   unfolding readNumbers
-  read-is number e =
-      ap (λ (n : ℕ). four n (r .events) (r .place) (r .opening)) e
-      ∙ ap (λ (x : Reading). four (verdictNumber (x .answer)) (x .events) (x .place) (x .opening)) read
-      ∙ ap (four (verdictNumber (reading s .answer)) (reading s .events) (reading s .place)) (opening-length s)
+  read-is number e = rw (e, read)
 
-  pub line-is : (k : ℕ) (room : List ℕ) (placed : Placed) → placed ≡ placeAnswer r k room → (o : Outcome) → o ≡ lineOutcome (r .events) placed
-      → (l : List ℕ) → l ≡ outcomeNumbers (r .events) o → l ≡ lineNumbers s k room
-  unfolding lineNumbers
-  line-is k room placed p o q l e = rw (e, q, p, read)
+  pub listing-is : (room : List ℕ) (put : Put) → put ≡ putAnswer (listingIn way s) room → (o : Outcome) → o ≡ listingOutcome (r .events) put
+      → (l : List ℕ) → l ≡ outcomeNumbers (r .events) o → l ≡ listingNumbers way s room
+  unfolding listingNumbers
+  listing-is room put p o q l e = rw (e, q, p, read)
 
   pub replay-is : (room : List ℕ) (copied : Copied) → copied ≡ copyAnswer (orderOf (r .state .ops)) room → (o : Outcome) → o ≡ orderOutcome (r .events) copied
-      → (l : List ℕ) → l ≡ outcomeNumbers (r .events) o → l ≡ replayNumbers s room
+      → (l : List ℕ) → l ≡ outcomeNumbers (r .events) o → l ≡ replayNumbers way s room
   unfolding replayNumbers
   replay-is room copied p o q l e = rw (e, q, p, read)
 
   pub next-is : (saga owed : ℕ) → owed ≡ outstanding (r .tables) (r .state) saga → (step : NextStep) → step ≡ closing (r .tables) (r .state) saga
-      → (l : List ℕ) → l ≡ stepNumbers owed step → l ≡ nextNumbers s saga
+      → (l : List ℕ) → l ≡ stepNumbers owed step → l ≡ nextNumbers way s saga
   unfolding nextNumbers
   next-is saga owed o step q l e = rw (e, o, q, read)
 
+-- ---- unpacking
+
+module _ (s : List ℕ) (r : Reading) (read : r ≡ reading s) where
   pub unpack-is : (room : List ℕ) (o : Outcome) → o ≡ unpackOutcome ceiling1 s room → (l : List ℕ) → l ≡ outcomeNumbers (r .events) o
       → l ≡ unpackNumbers s room
   unfolding unpackNumbers

@@ -1,8 +1,9 @@
 -- The numbers in which an answer crosses to a program in C or Rust (docs/RULES.md, 5 Reading, opening, writing, unpacking): "It returns number, events accepted and
 -- place", and "After success the answer is the number of bytes or fields written".
-use Prim.Native.Nat.{ℕ}
+use Prim.Native.Nat.{ℕ, _%_}
+use mathlib.Core.Bool.{Bool, cond}
 use mathlib.Core.List.{List, [], _∷_}
-use lib.ListN.{length}
+use lib.Dec.{eqb, ltb}
 use Rattle.terms.specs.Refusals.{numberOf, verdictNumber}
 use Rattle.terms.specs.declared.Refusal.the-variants.{NoRoom}
 use Rattle.number.specs.Number.{ceiling1}
@@ -13,29 +14,50 @@ use Rattle.closing.specs.declared.NextStep.the-variants.{NoStep, ToBegin, ToCom
 use Rattle.replay.specs.Replay.{orderOf, copyAnswer}
 use Rattle.replay.specs.declared.Copied.{Copied}
 use Rattle.replay.specs.declared.Copied.the-variants.{Wrote as WroteOrder, NoRoom as NoRoomForOrder}
-use Rattle.book.specs.Reading.{readingOf, openingOf}
+use Rattle.tables.specs.declared.Circles.{Circles}
+use Rattle.tables.specs.declared.Circles.the-variants.{Forbidden, Permitted}
+use Rattle.book.specs.Reading.{readingBy, readingOf}
 use Rattle.book.specs.Packing.{unpackOutcome, writeOutcome}
 use Rattle.book.specs.declared.Reading.{Reading}
 use Rattle.book.specs.declared.Outcome.{Outcome}
 use Rattle.book.specs.declared.Outcome.the-variants.{Wrote, Refuses}
-use Rattle.listing.specs.Lines.{placeAnswer}
-use Rattle.listing.specs.declared.Placed.{Placed}
-use Rattle.listing.specs.declared.Placed.the-variants.{Wrote as WroteLine, NoRoom as NoRoomForLine, NoLine}
+use Rattle.onward.specs.Onward.{judgementBy, judgementTo, refusedBy}
+use Rattle.onward.specs.declared.Judgement.{Judgement}
+use Rattle.onward.specs.declared.No.{No}
+use Rattle.listing.specs.Lines.{listingOf}
+use Rattle.listing.specs.Texts.{putAnswer}
+use Rattle.listing.specs.declared.Put.{Put}
+use Rattle.listing.specs.declared.Put.the-variants.{Wrote as WroteListing, NoRoom as NoRoomForListing}
 
--- what reading a book returns
+-- reading in the old way, to the first refusal, as unpacking, writing and the accepted opening go by it
 abbrev pub reading : List ℕ → Reading
 reading s = readingOf ceiling1 s
 
+-- ---- the ways of reading, by number: on past refused events (0), to the first refusal (1), and each of these with circles in the tables permitted (2, 3); of a larger
+-- number what is left of it by fours
+
+abbrev pub readsOn : ℕ → Bool
+readsOn way = eqb (way % 2) 0
+
+abbrev pub circlesIn : ℕ → Circles
+circlesIn way = cond (ltb (way % 4) 2) Forbidden Permitted
+
+unfoldable pub judged : ℕ → List ℕ → Judgement
+judged way s = cond (readsOn way) (judgementBy (circlesIn way) ceiling1 s) (judgementTo (readingBy (circlesIn way) ceiling1 s))
+
+-- the events that are refused and passed over; a reading to the first refusal passes over none
+unfoldable pub refusedIn : ℕ → List ℕ → List No
+refusedIn way s = cond (readsOn way) (refusedBy (circlesIn way) ceiling1 s) []
+
 -- ---- the four numbers of an answer: the refusal's number, 0 if there is none; the events accepted; the refusal's place; and how many bytes or
--- fields were accepted or written
+-- fields were written, or events passed over
 
 abbrev pub four : ℕ → ℕ → ℕ → ℕ → List ℕ
 four refusal events place size = refusal ∷ events ∷ place ∷ size ∷ []
 
--- reading, with the length of the accepted opening
-unfoldable pub readNumbers : List ℕ → List ℕ
-readNumbers s =
-    four (verdictNumber (reading s .answer)) (reading s .events) (reading s .place) (length (openingOf ceiling1 s))
+-- reading, with how many events were refused and passed over
+unfoldable pub readNumbers : ℕ → List ℕ → List ℕ
+readNumbers way s = four (verdictNumber (judged way s .answer)) (judged way s .events) (judged way s .place) (judged way s .refused)
 
 -- what was written for a book of so many accepted events; a refusal says by itself how many it came after
 abbrev pub outcomeNumbers : ℕ → Outcome → List ℕ
@@ -48,26 +70,27 @@ unpackNumbers s room = outcomeNumbers (reading s .events) (unpackOutcome ceiling
 unfoldable pub writeNumbers : List ℕ → List ℕ → List ℕ
 writeNumbers fs room = outcomeNumbers (reading (encodes fs) .events) (writeOutcome ceiling1 fs room)
 
--- a line of the listing; one that is not there has no bytes, and is no refusal
-abbrev pub lineOutcome : ℕ → Placed → Outcome
-lineOutcome events (WroteLine n) = Wrote n
-lineOutcome events NoRoomForLine = Refuses NoRoom events 0
-lineOutcome events NoLine = Wrote 0
+-- the listing
+unfoldable pub listingIn : ℕ → List ℕ → List ℕ
+listingIn way s = listingOf (judged way s) (refusedIn way s)
 
-unfoldable pub lineNumbers : List ℕ → ℕ → List ℕ → List ℕ
-lineNumbers s k room =
-    outcomeNumbers (reading s .events) (lineOutcome (reading s .events) (placeAnswer (reading s) k room))
+abbrev pub listingOutcome : ℕ → Put → Outcome
+listingOutcome events (WroteListing n) = Wrote n
+listingOutcome events NoRoomForListing = Refuses NoRoom events 0
+
+unfoldable pub listingNumbers : ℕ → List ℕ → List ℕ → List ℕ
+listingNumbers way s room = outcomeNumbers (judged way s .events) (listingOutcome (judged way s .events) (putAnswer (listingIn way s) room))
 
 -- the order to replay in; that of a book whose tables are refused is empty
 abbrev pub orderOutcome : ℕ → Copied → Outcome
 orderOutcome events (WroteOrder n) = Wrote n
 orderOutcome events NoRoomForOrder = Refuses NoRoom events 0
 
-abbrev pub orderIn : List ℕ → List ℕ
-orderIn s = orderOf (reading s .state .ops)
+abbrev pub orderIn : ℕ → List ℕ → List ℕ
+orderIn way s = orderOf (judged way s .state .ops)
 
-unfoldable pub replayNumbers : List ℕ → List ℕ → List ℕ
-replayNumbers s room = outcomeNumbers (reading s .events) (orderOutcome (reading s .events) (copyAnswer (orderIn s) room))
+unfoldable pub replayNumbers : ℕ → List ℕ → List ℕ → List ℕ
+replayNumbers way s room = outcomeNumbers (judged way s .events) (orderOutcome (judged way s .events) (copyAnswer (orderIn way s) room))
 
 -- ---- the three numbers of a closing step: its event as a book has it ("1 begin t; 2 commit t; 3 abort t"), 0 if there is none; its
 -- transaction; and the number outstanding
@@ -78,6 +101,6 @@ stepNumbers owed (ToBegin t) = 1 ∷ t ∷ owed ∷ []
 stepNumbers owed (ToCommit t) = 2 ∷ t ∷ owed ∷ []
 stepNumbers owed (ToAbort t) = 3 ∷ t ∷ owed ∷ []
 
-unfoldable pub nextNumbers : List ℕ → ℕ → List ℕ
-nextNumbers s saga =
-    stepNumbers (outstanding (reading s .tables) (reading s .state) saga) (closing (reading s .tables) (reading s .state) saga)
+unfoldable pub nextNumbers : ℕ → List ℕ → ℕ → List ℕ
+nextNumbers way s saga =
+    stepNumbers (outstanding (judged way s .tables) (judged way s .state) saga) (closing (judged way s .tables) (judged way s .state) saga)

@@ -2,11 +2,16 @@
 //
 // Each function takes any bytes and any numbers: there is nothing that a caller has to look at first. An answer is always the same four
 // numbers: the refusal's number, 0 if there is none; the events accepted; the refusal's place; and how many bytes, fields or transactions were
-// accepted or written. A refusal leaves a lent room as it was. A line that is not in the listing is no refusal: nothing is written for it.
+// written, or events passed over. A refusal leaves a lent room as it was.
+//
+// The way of reading is a number: on past refused events (0), to the first refusal (1), and each of these with circles in the tables permitted (2, 3).
 use book::Outcome;
 use closing::NextStep;
-use listing::Placed;
+use listing::Put;
+use number::Number;
+use onward::Judgement;
 use replay::Copied;
+use tables::Circles;
 use terms::Refusal;
 ghost use mathlib.Core.Path.{_≡_};
 ghost use lib.ListN.{length};
@@ -15,8 +20,9 @@ ghost use Rattle.left.specs.Left.{leftIn};
 ghost use Rattle.replay.specs.Replay.{copyRoom};
 ghost use Rattle.book.specs.Reading.{openingOf};
 ghost use Rattle.book.specs.Packing.{unpackedRoom, writtenRoom};
-ghost use Rattle.listing.specs.Lines.{lineCount, placeRoom};
-ghost use Rattle.sagalib.specs.Numbers.{reading, readNumbers, outcomeNumbers, unpackNumbers, writeNumbers, lineOutcome, lineNumbers, orderOutcome, orderIn, replayNumbers, stepNumbers, nextNumbers};
+ghost use Rattle.onward.specs.Onward.{fitting, listedIn};
+ghost use Rattle.listing.specs.Texts.{putAnswer, putRoom};
+ghost use Rattle.sagalib.specs.Numbers.{readsOn, circlesIn, judged, refusedIn, readNumbers, outcomeNumbers, unpackNumbers, writeNumbers, listingIn, listingOutcome, listingNumbers, orderOutcome, orderIn, replayNumbers, stepNumbers, nextNumbers};
 
 // The answer after writing for a book of so many accepted events; a refusal says by itself how many it came after.
 fn outcome_numbers(events: usize, outcome: Outcome) -> [u64; 4]
@@ -31,14 +37,13 @@ fn outcome_numbers(events: usize, outcome: Outcome) -> [u64; 4]
     }
 }
 
-// What came of putting a line into a room; one that is not there has no bytes.
-fn line_outcome(events: usize, placed: Placed) -> Outcome
-    ensures { λ r. ⌜ r ≡ lineOutcome events placed ⌝ }
+// What came of putting a listing into a room.
+fn listing_outcome(events: usize, put: Put) -> Outcome
+    ensures { λ r. ⌜ r ≡ listingOutcome events put ⌝ }
 {
-    match placed {
-        Placed::Wrote(n) => Outcome::Wrote(n),
-        Placed::NoRoom => Outcome::Refuses(Refusal::NoRoom, events, 0),
-        Placed::NoLine => Outcome::Wrote(0),
+    match put {
+        Put::Wrote(n) => Outcome::Wrote(n),
+        Put::NoRoom => Outcome::Refuses(Refusal::NoRoom, events, 0),
     }
 }
 
@@ -64,18 +69,62 @@ fn step_numbers(owed: usize, step: NextStep) -> [u64; 3]
     }
 }
 
-// Reads a book: the answer, with the length of the accepted opening.
-#[no_mangle]
-pub extern "C" fn saga_read(book: &[u8], answer: &mut [u64; 4])
-    ensures { λ _. ⌜ now (answer .exit) ≡ readNumbers (now (book .entry)) ⌝ }
+// Whether a way of reading goes on past refused events (0, 2), and not to the first refusal alone (1, 3).
+fn reads_on(way: u64) -> bool
+    ensures { λ r. ⌜ r ≡ readsOn way ⌝ }
 {
-    let read = book::read(book);
+    way % 2 == 0
+}
+
+// Whether circles in the tables are permitted in a way of reading (2, 3) or not (0, 1).
+fn circles_in(way: u64) -> Circles
+    ensures { λ r. ⌜ r ≡ circlesIn way ⌝ }
+{
+    if way % 4 < 2 {
+        return Circles::Forbidden;
+    }
+    Circles::Permitted
+}
+
+// Reads a book in one of the ways.
+fn judged(book: &[u8], way: u64) -> Judgement
+    ensures { λ r. ⌜ r ≡ judged way (now (book .entry)) ⌝ }
+{
+    let circles = circles_in(way);
+    if reads_on(way) {
+        return onward::read_by(book, Number::MOST, circles);
+    }
+    match circles {
+        Circles::Forbidden => onward::read_to_first_refusal(book),
+        Circles::Permitted => onward::read_to_first_refusal_permitting_circles(book),
+    }
+}
+
+// Reads a book: the answer, with how many events were refused and passed over.
+#[no_mangle]
+pub extern "C" fn saga_read(book: &[u8], way: u64, answer: &mut [u64; 4])
+    ensures { λ _. ⌜ now (answer .exit) ≡ readNumbers way (now (book .entry)) ⌝ }
+{
+    let read = judged(book, way);
     let verdict = read.answer;
     let number = verdict.number() as u64;
     let events = read.events as u64;
     let place = read.place as u64;
-    let opening = read.opening as u64;
-    *answer = [number, events, place, opening];
+    let refused = read.refused as u64;
+    *answer = [number, events, place, refused];
+}
+
+// Puts index and number of a book's refused events, from the one on that `skip` others come before, as pairs at the front of a lent list, as many as fit; and how
+// many events that are. In the ways that read to the first refusal no event is passed over.
+#[no_mangle]
+pub extern "C" fn saga_refused(book: &[u8], way: u64, skip: u64, list: &mut [u64]) -> u64
+    ensures { λ r. ⌜ (r ≡ length (fitting skip (length (now (list .entry))) (refusedIn way (now (book .entry))))) × (now (list .exit) ≡ listedIn (now (list .entry)) (fitting skip (length (now (list .entry))) (refusedIn way (now (book .entry))))) ⌝ }
+{
+    if reads_on(way) {
+        let circles = circles_in(way);
+        return onward::fill_refused(book, circles, skip as usize, list) as u64;
+    }
+    0
 }
 
 // How many bytes of a book its accepted opening has.
@@ -87,34 +136,36 @@ pub extern "C" fn saga_opening(book: &[u8]) -> u64
     opening.len() as u64
 }
 
-// How many lines the listing of a book has.
-#[no_mangle]
-pub extern "C" fn saga_lines(book: &[u8]) -> u64
-    ensures { λ r. ⌜ r ≡ lineCount (reading (now (book .entry))) ⌝ }
+// Puts the listing of a book that is read in one of the ways at the front of a lent room.
+fn put_listing(book: &[u8], way: u64, room: &mut [u8]) -> Put
+    ensures { λ r. ⌜ (r ≡ putAnswer (listingIn way (now (book .entry))) (now (room .entry))) × (now (room .exit) ≡ putRoom (listingIn way (now (book .entry))) (now (room .entry))) ⌝ }
 {
-    let read = book::read(book);
-    listing::line_count(read) as u64
+    let circles = circles_in(way);
+    if reads_on(way) {
+        return listing::put_listing(book, circles, room);
+    }
+    listing::put_listing_to_first_refusal(book, circles, room)
 }
 
-// Puts line k of the listing of a book, counted from 0, at the front of a lent room.
+// Puts the listing of a book at the front of a lent room.
 #[no_mangle]
-pub extern "C" fn saga_line(book: &[u8], k: u64, room: &mut [u8], answer: &mut [u64; 4])
-    ensures { λ _. ⌜ (now (answer .exit) ≡ lineNumbers (now (book .entry)) k (now (room .entry))) × (now (room .exit) ≡ placeRoom (reading (now (book .entry))) k (now (room .entry))) ⌝ }
+pub extern "C" fn saga_listing(book: &[u8], way: u64, room: &mut [u8], answer: &mut [u64; 4])
+    ensures { λ _. ⌜ (now (answer .exit) ≡ listingNumbers way (now (book .entry)) (now (room .entry))) × (now (room .exit) ≡ putRoom (listingIn way (now (book .entry))) (now (room .entry))) ⌝ }
 {
-    let read = book::read(book);
+    let read = judged(book, way);
     let events = read.events;
-    let placed = listing::put_line(read, k as usize, room);
-    let outcome = line_outcome(events, placed);
+    let put = put_listing(book, way, room);
+    let outcome = listing_outcome(events, put);
     let numbers = outcome_numbers(events, outcome);
     *answer = numbers;
 }
 
 // What is to be done next for the saga of an index, after the accepted events of a book.
 #[no_mangle]
-pub extern "C" fn saga_next(book: &[u8], saga: u64, step: &mut [u64; 3])
-    ensures { λ _. ⌜ now (step .exit) ≡ nextNumbers (now (book .entry)) saga ⌝ }
+pub extern "C" fn saga_next(book: &[u8], way: u64, saga: u64, step: &mut [u64; 3])
+    ensures { λ _. ⌜ now (step .exit) ≡ nextNumbers way (now (book .entry)) saga ⌝ }
 {
-    let read = book::read(book);
+    let read = judged(book, way);
     let tables = read.tables;
     let state = read.state;
     let i = saga as usize;
@@ -126,10 +177,10 @@ pub extern "C" fn saga_next(book: &[u8], saga: u64, step: &mut [u64; 3])
 
 // How much is left after the accepted events of a book: what all sagas owe together.
 #[no_mangle]
-pub extern "C" fn saga_left(book: &[u8]) -> u64
-    ensures { λ r. ⌜ r ≡ leftIn (reading (now (book .entry)) .tables) (reading (now (book .entry)) .state) ⌝ }
+pub extern "C" fn saga_left(book: &[u8], way: u64) -> u64
+    ensures { λ r. ⌜ r ≡ leftIn (judged way (now (book .entry)) .tables) (judged way (now (book .entry)) .state) ⌝ }
 {
-    let read = book::read(book);
+    let read = judged(book, way);
     let tables = read.tables;
     let state = read.state;
     left::left_of(tables, state) as u64
@@ -138,10 +189,10 @@ pub extern "C" fn saga_left(book: &[u8]) -> u64
 // Puts the transactions that hold a committed operation after the accepted events of a book, in the order in which their changes can be replayed, at the
 // front of a lent list.
 #[no_mangle]
-pub extern "C" fn saga_replay(book: &[u8], list: &mut [u16], answer: &mut [u64; 4])
-    ensures { λ _. ⌜ (now (answer .exit) ≡ replayNumbers (now (book .entry)) (now (list .entry))) × (now (list .exit) ≡ copyRoom (orderIn (now (book .entry))) (now (list .entry))) ⌝ }
+pub extern "C" fn saga_replay(book: &[u8], way: u64, list: &mut [u16], answer: &mut [u64; 4])
+    ensures { λ _. ⌜ (now (answer .exit) ≡ replayNumbers way (now (book .entry)) (now (list .entry))) × (now (list .exit) ≡ copyRoom (orderIn way (now (book .entry))) (now (list .entry))) ⌝ }
 {
-    let read = book::read(book);
+    let read = judged(book, way);
     let events = read.events;
     let state = read.state;
     let ops = state.ops;
@@ -156,7 +207,7 @@ pub extern "C" fn saga_replay(book: &[u8], list: &mut [u16], answer: &mut [u64; 
 pub extern "C" fn saga_unpack(book: &[u8], room: &mut [u16], answer: &mut [u64; 4])
     ensures { λ _. ⌜ (now (answer .exit) ≡ unpackNumbers (now (book .entry)) (now (room .entry))) × (now (room .exit) ≡ unpackedRoom ceiling1 (now (book .entry)) (now (room .entry))) ⌝ }
 {
-    let read = book::read(book);
+    let read = book::read_to_first_refusal(book);
     let events = read.events;
     let outcome = book::unpack(book, room);
     let numbers = outcome_numbers(events, outcome);
@@ -174,7 +225,7 @@ pub extern "C" fn saga_write(fields: &[u16], room: &mut [u8], answer: &mut [u64;
         *answer = refused;
         return;
     };
-    let written = book::read(&room[..n]);
+    let written = book::read_to_first_refusal(&room[..n]);
     let events = written.events;
     let numbers = outcome_numbers(events, outcome);
     *answer = numbers;

@@ -1,8 +1,8 @@
 // Tells staff, on standard output, what there is to say of a plan and a book.
-use book::Reading;
 use libc::STDOUT_FILENO;
 use listing::Put;
 use listing::Text;
+use onward::Judgement;
 use plan::Plan;
 use plan::PlanRead;
 ghost use Rattle.telling.specs.Telling.{Tells};
@@ -29,10 +29,10 @@ fn print_line(
     ends: &[u32],
     steps: &[u16],
     lists: &[u16],
-    reading: Reading,
+    judgement: Judgement,
     k: usize,
 ) -> bool {
-    let text = moves::line(names, ends, steps, lists, reading, k);
+    let text = moves::line(names, ends, steps, lists, judgement, k);
     let mut room = [0u8; Text::MOST];
     let Put::Wrote(n) = text.put(&mut room) else {
         return false;
@@ -41,11 +41,17 @@ fn print_line(
 }
 
 // Writes the lines one after another, and stops at one that is not taken whole; whether all were.
-fn print_lines(names: &[u8], ends: &[u32], steps: &[u16], lists: &[u16], reading: Reading) -> bool {
-    let count = moves::line_count(names, ends, steps, lists, reading);
+fn print_lines(
+    names: &[u8],
+    ends: &[u32],
+    steps: &[u16],
+    lists: &[u16],
+    judgement: Judgement,
+) -> bool {
+    let count = moves::line_count(names, ends, steps, lists, judgement);
     let mut k: usize = 0;
     while k < count {
-        if !print_line(names, ends, steps, lists, reading, k) {
+        if !print_line(names, ends, steps, lists, judgement, k) {
             return false;
         }
         k += 1;
@@ -66,12 +72,12 @@ fn tell_in(
 {
     match plan::read(text, names, ends, steps, lists) {
         PlanRead::Read(counts) => {
-            let reading = book::read(book);
+            let judgement = onward::read(book);
             let n = counts.names;
             let k = counts.ends;
             let m = counts.moves;
             let l = counts.lists;
-            if print_lines(&names[..n], &ends[..k], &steps[..m], &lists[..l], reading) {
+            if print_lines(&names[..n], &ends[..k], &steps[..m], &lists[..l], judgement) {
                 return Told::Whole;
             }
             Told::NotWritten

@@ -1,7 +1,7 @@
 //! Small books to try the rules with. All their fields are below 128, so a
 //! field is a byte.
 
-use second::{read, report, Reading};
+use second::{read_to_first_refusal, report, Reading};
 
 pub const READ: u8 = 0;
 pub const WRITE: u8 = 1;
@@ -68,8 +68,9 @@ impl Book {
         self
     }
 
+    /// Reads it to its first refusal.
     pub fn read(&self) -> Reading {
-        read(&self.0)
+        read_to_first_refusal(&self.0)
     }
 
     /// The number it is read with, 0 if it is accepted.
@@ -82,7 +83,7 @@ impl Book {
     #[track_caller]
     pub fn refuses_last(&self, number: u8, bytes: usize) {
         let before = self.0.len() - bytes;
-        let accepted = read(&self.0[..before]);
+        let accepted = read_to_first_refusal(&self.0[..before]);
         assert_eq!(accepted.number, 0, "before the last event");
         let reading = self.read();
         let answer = (reading.number, reading.events, reading.place);
@@ -107,7 +108,7 @@ pub fn handed_to_and_fro(times: usize) -> Book {
 
 /// Number, events and place of a book given as bytes.
 pub fn answer(bytes: &[u8]) -> (u8, usize, usize) {
-    let reading = read(bytes);
+    let reading = read_to_first_refusal(bytes);
     (reading.number, reading.events, reading.place)
 }
 

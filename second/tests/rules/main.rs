@@ -1,6 +1,7 @@
 //! The rules of the saga book, run through the library as a user of it would.
 
 mod books;
+mod carry;
 mod chance;
 mod closing;
 mod decided;

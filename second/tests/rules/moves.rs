@@ -2,7 +2,7 @@
 //! refused about them, and the lines that the kitchen reads.
 
 use crate::books::{Book, LISTED};
-use second::{move_lines, outstanding, NotRead, Plan};
+use second::{move_lines, outstanding, read, NotRead, Plan};
 
 /// What the kitchen reads for a plan that is understood.
 fn shown(text: &str, book: &Book) -> String {
@@ -16,7 +16,7 @@ fn lines_of(plan: &Plan, book: &Book) -> String {
     if lines.starts_with("plan refused ") || lines.starts_with("book refused ") {
         return lines;
     }
-    let reading = book.read();
+    let reading = read(&book.0);
     let left: usize = (0..16).map(|saga| outstanding(&reading, saga)).sum();
     let below = lines.strip_prefix(&format!("left {left}\n"));
     below.expect(&lines).to_string()
@@ -274,13 +274,25 @@ fn the_plan_is_judged_before_the_book() {
 
 #[test]
 fn a_refused_book_is_the_whole_answer() {
-    let book = saga_of_three().begin(0).begin(2);
-    assert_eq!(shown(THREE_STEPS, &book), "book refused 13 1 8\n");
-    assert_eq!(shown("", &book), "book refused 13 1 8\n");
+    let book = saga_of_three().begin(0).then(&[9]);
+    assert_eq!(shown(THREE_STEPS, &book), "book refused 7 1 8\n");
+    assert_eq!(shown("", &book), "book refused 7 1 8\n");
     let never_moving = Book::new(&[], 2, 0, &[[0, 1, 4], [1, 0, 4]]);
     assert_eq!(shown("", &never_moving), "book refused 21 0 4\n");
     let too_long = Book(vec![1; 65_537]);
     assert_eq!(shown("", &too_long), "book refused 1 0 0\n");
+}
+
+#[test]
+fn a_refused_event_refuses_no_book() {
+    let begun = saga_of_three().begin(0);
+    let refused = begun.clone().begin(2);
+    assert_eq!(shown(THREE_STEPS, &refused), shown(THREE_STEPS, &begun));
+    let put_back = refused.abort(0);
+    let lines = "list 1A put back\nmove Week 46: nothing\n";
+    assert_eq!(shown(THREE_STEPS, &put_back), lines);
+    let torn = put_back.then(&[1]);
+    assert_eq!(shown(THREE_STEPS, &torn), "book refused 2 2 13\n");
 }
 
 #[test]

@@ -3,7 +3,8 @@
 use crate::books::{answer, Book, LISTED, READ};
 use second::{
     listing, listing_circles_permitted, opening, opening_circles_permitted, read,
-    read_circles_permitted, report, unpack, write, Refused,
+    read_circles_permitted, read_circles_permitted_to_first_refusal, report, unpack, write,
+    Refused,
 };
 
 const BEGIN_KINDS: [u8; 4] = [4, 5, 6, 7];
@@ -30,9 +31,10 @@ fn moves(tables: &Book) {
     assert_eq!(tables.number(), 0);
 }
 
-/// Number, events and place of a book read with circles permitted.
+/// Number, events and place of a book read with circles permitted to its first
+/// refusal.
 fn circles_answer(book: &Book) -> (u8, usize, usize) {
-    let reading = read_circles_permitted(&book.0);
+    let reading = read_circles_permitted_to_first_refusal(&book.0);
     (reading.number, reading.events, reading.place)
 }
 

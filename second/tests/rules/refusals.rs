@@ -1,7 +1,7 @@
 //! Each refusal, and what comes first when several lines hold.
 
 use crate::books::{answer, Book, LISTED, READ, WRITE};
-use second::{listing, opening, read};
+use second::{listing, listing_to_first_refusal, opening, read};
 
 #[test]
 fn number_2_ends_early_at_every_place() {
@@ -354,7 +354,7 @@ fn the_lowest_number_is_given() {
 fn the_opening_and_the_state_are_those_before_the_refusal() {
     let book = Book(LISTED.to_vec()).then(&[0x01, 0x02, 0x01, 0x03]);
     assert_eq!(opening(&book.0), &LISTED);
-    let shown = listing(&book.0);
+    let shown = listing_to_first_refusal(&book.0);
     let expected = listing(&LISTED).replace("book accepted 7", "book refused 13 7 24");
     assert_eq!(shown, expected);
     let tables_only = Book::new(&[1], 0, 0, &[]).begin(1);

@@ -287,7 +287,7 @@ fn reading_stops_at_it_and_the_opening_ends_before_it() {
     let place = accepted.0.len();
     let events = accepted.read().events;
     let first_line = format!("book refused 22 {events} {place}\n");
-    assert!(second::listing(&refused.0).starts_with(&first_line));
+    assert!(second::listing_to_first_refusal(&refused.0).starts_with(&first_line));
     assert_eq!(second::opening(&refused.0), &accepted.0);
     let fields: Vec<u16> = refused.0.iter().map(|byte| u16::from(*byte)).collect();
     let expected = second::Refused {

@@ -17,7 +17,7 @@ returns : tie.Need-returns
 returns c =
     let a = c .before .before .before .before .before .before .args in
     let t = c .before .before .transaction-count in
-    c .transaction-line .ensures ∙ ap (withAll []) (sym (later-transaction (a .reading) (a .k) (t .result) (t .ensures) (omega arith)))
+    c .transaction-line .ensures ∙ ap (withAll []) (sym (later-transaction (a .judgement) (a .k) (t .result) (t .ensures) (omega arith)))
 
 size-requires : tie.Need-size-requires
 size-requires c κs = search needs
@@ -37,7 +37,7 @@ returns-2 c =
     let t = c .before .before .before .before .before .transaction-count in
     let o = c .before .before .before .size in
     c .operation-line .ensures
-    ∙ ap (withAll []) (sym (later-operation (a .reading) (a .k) (t .result) (t .ensures) (o .result) (o .ensures) (omega arith) (omega arith)))
+    ∙ ap (withAll []) (sym (later-operation (a .judgement) (a .k) (t .result) (t .ensures) (o .result) (o .ensures) (omega arith) (omega arith)))
 
 saga-line-requires : tie.Need-saga-line-requires
 saga-line-requires c κs = search needs
@@ -48,7 +48,7 @@ returns-3 c =
     let t = c .before .before .before .before .transaction-count in
     let o = c .before .before .size in
     c .saga-line .ensures
-    ∙ ap (withAll []) (sym (later-saga (a .reading) (a .k) (t .result) (t .ensures) (o .result) (o .ensures) (omega arith) (omega arith)))
+    ∙ ap (withAll []) (sym (later-saga (a .judgement) (a .k) (t .result) (t .ensures) (o .result) (o .ensures) (omega arith) (omega arith)))
 
 pub later-line-spec : {M : Type 1} → statement M
 later-line-spec =

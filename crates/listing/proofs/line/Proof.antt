@@ -12,8 +12,8 @@ first-line-requires c κs = search needs
 returns : tie.Need-returns
 returns c =
     let a = c .before .before .args in
-    line-whole (a .reading) (a .k)
-    (c .first-line .ensures ∙ ap (withAll []) (sym (line-first (a .reading) (a .k) (c .before .if1 .taken))))
+    line-whole (a .judgement) (a .k)
+    (c .first-line .ensures ∙ ap (withAll []) (sym (line-first (a .judgement) (a .k) (c .before .if1 .taken))))
 
 sub-later : tie.Need-sub-later
 sub-later c = search needs
@@ -24,8 +24,8 @@ later-line-requires c κs = search needs
 returns-2 : tie.Need-returns-2
 returns-2 c =
     let a = c .before .before .args in
-    line-whole (a .reading) (a .k)
-    (c .later-line .ensures ∙ ap (withAll []) (sym (line-later (a .reading) (a .k) (c .before .if1 .left))))
+    line-whole (a .judgement) (a .k)
+    (c .later-line .ensures ∙ ap (withAll []) (sym (line-later (a .judgement) (a .k) (c .before .if1 .left))))
 
 pub line-spec : {M : Type 1} → statement M
 line-spec =

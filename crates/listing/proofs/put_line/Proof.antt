@@ -1,4 +1,4 @@
-use mathlib.Core.Path.{_≡_, sym, ap, _∙_}
+use mathlib.Core.Path.{sym, ap, _∙_}
 use mathlib.Core.List.{List}
 use Prim.Native.Nat.{ℕ}
 use native.Mathlib.Omega.{arith}
@@ -16,7 +16,7 @@ line-count-requires c κs = search needs
 returns : tie.Need-returns
 returns c =
     let a = c .before .before .before .args in
-    place-none (a .reading) (a .k) (now (a .room)) (omega (arith, c .before .line-count .ensures, c .if1 .taken))
+    place-none (a .judgement) (a .k) (now (a .room)) (omega (arith, c .before .line-count .ensures, c .if1 .taken))
 
 line-requires : tie.Need-line-requires
 line-requires c κs = search needs
@@ -39,7 +39,7 @@ returns-2 c =
     let room = now (a .room) in
     let p = c .before .before .before .before .before .put in
     let l = c .before .before .before .before .before .before .before .line in
-    let there = place-there (a .reading) (a .k) room (omega (arith, c .before .before .before .before .before .before .before .before .before .line-count .ensures, c .before .before .before .before .before .before .before .before .if1 .left)) in (
+    let there = place-there (a .judgement) (a .k) room (omega (arith, c .before .before .before .before .before .before .before .before .before .line-count .ensures, c .before .before .before .before .before .before .before .before .if1 .left)) in (
       ap placed (sym (c .before .n .given .1) ∙ p .ensures .0 ∙ ap (λ (x : List ℕ). putAnswer x room) (l .ensures)) ∙ there .0,
       p .ensures .1 ∙ ap (λ (x : List ℕ). putRoom x room) (l .ensures) ∙ there .1,
     )
@@ -53,7 +53,7 @@ returns-3 c =
     let room = now (a .room) in
     let p = c .before .before .before .before .put in
     let l = c .before .before .before .before .before .before .line in
-    let there = place-there (a .reading) (a .k) room (omega (arith, c .before .before .before .before .before .before .before .before .line-count .ensures, c .before .before .before .before .before .before .before .if1 .left)) in (
+    let there = place-there (a .judgement) (a .k) room (omega (arith, c .before .before .before .before .before .before .before .before .line-count .ensures, c .before .before .before .before .before .before .before .if1 .left)) in (
       ap placed (sym (c .enum-told .given .1) ∙ p .ensures .0 ∙ ap (λ (x : List ℕ). putAnswer x room) (l .ensures)) ∙ there .0,
       p .ensures .1 ∙ ap (λ (x : List ℕ). putRoom x room) (l .ensures) ∙ there .1,
     )

@@ -16,7 +16,7 @@ returns : tie.Need-returns
 returns c =
     let a = c .before .before .before .before .before .before .before .before .before .args in
     c .left-line .ensures
-    ∙ accepted-left (now (a .names)) (now (a .ends)) (now (a .steps)) (now (a .lists)) (a .reading) (a .k) (omega arith) (c .before .left-of .result) (c .before .left-of .ensures)
+    ∙ accepted-left (now (a .names)) (now (a .ends)) (now (a .steps)) (now (a .lists)) (a .judgement) (a .k) (omega arith) (c .before .left-of .result) (c .before .left-of .ensures)
 
 sub-behind : tie.Need-sub-behind
 sub-behind c = search needs
@@ -27,7 +27,7 @@ told-line-requires c κs = search needs
 returns-2 : tie.Need-returns-2
 returns-2 c =
     let a = c .before .before .before .before .before .before .args in
-    c .told-line .ensures ∙ accepted-told (now (a .names)) (now (a .ends)) (now (a .steps)) (now (a .lists)) (a .reading) (a .k) (λ z. omega arith)
+    c .told-line .ensures ∙ accepted-told (now (a .names)) (now (a .ends)) (now (a .steps)) (now (a .lists)) (a .judgement) (a .k) (λ z. omega arith)
 
 pub accepted-line-spec : {M : Type 1} → statement M
 accepted-line-spec =

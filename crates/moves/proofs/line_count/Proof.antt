@@ -15,7 +15,7 @@ enum-told-2 : tie.Need-enum-told-2
 enum-told-2 c = search needs
 
 returns : tie.Need-returns
-returns c = let a = c .before .before .before .before .before .before .before .args in count-unfit (now (a .names)) (now (a .ends)) (now (a .steps)) (now (a .lists)) (a .reading) _ (sym (c .enum-told2 .given .1) ∙ c .before .before .judged .ensures)
+returns c = let a = c .before .before .before .before .before .before .before .args in count-unfit (now (a .names)) (now (a .ends)) (now (a .steps)) (now (a .lists)) (a .judgement) _ (sym (c .enum-told2 .given .1) ∙ c .before .before .judged .ensures)
 
 enum-told-3 : tie.Need-enum-told-3
 enum-told-3 c = search needs
@@ -24,7 +24,7 @@ enum-told-4 : tie.Need-enum-told-4
 enum-told-4 c = search needs
 
 returns-2 : tie.Need-returns-2
-returns-2 c = let a = c .before .before .before .before .before .before .before .before .before .args in count-refused (now (a .names)) (now (a .ends)) (now (a .steps)) (now (a .lists)) (a .reading) (sym (c .before .before .enum-told .given .1) ∙ c .before .before .before .before .judged .ensures) _ (sym (c .enum-told4 .given .1))
+returns-2 c = let a = c .before .before .before .before .before .before .before .before .before .args in count-refused (now (a .names)) (now (a .ends)) (now (a .steps)) (now (a .lists)) (a .judgement) (sym (c .before .before .enum-told .given .1) ∙ c .before .before .before .before .judged .ensures) _ (sym (c .enum-told4 .given .1))
 
 add-told : tie.Need-add-told
 add-told c = search needs
@@ -33,7 +33,7 @@ add-result : tie.Need-add-result
 add-result c = search needs
 
 returns-3 : tie.Need-returns-3
-returns-3 c = let a = c .before .before .before .before .before .before .before .before .before .args in count-told (now (a .names)) (now (a .ends)) (now (a .steps)) (now (a .lists)) (a .reading) (sym (c .before .before .enum-told .given .1) ∙ c .before .before .before .before .judged .ensures) (sym (c .enum-told3 .given .1))
+returns-3 c = let a = c .before .before .before .before .before .before .before .before .before .args in count-told (now (a .names)) (now (a .ends)) (now (a .steps)) (now (a .lists)) (a .judgement) (sym (c .before .before .enum-told .given .1) ∙ c .before .before .before .before .judged .ensures) (sym (c .enum-told3 .given .1))
 
 pub line-count-spec : {M : Type 1} → statement M
 line-count-spec =

@@ -27,7 +27,7 @@ list-line-requires : tie.Need-list-line-requires
 list-line-requires c κs = search needs
 
 returns : tie.Need-returns
-returns c = let a = c .before .before .before .before .before .before .before .before .before .before .args in c .list-line .ensures ∙ ap (λ (w : ListWord). shown (listLine (now (a .names)) (now (a .ends)) (now (a .steps)) (a .k) w)) (c .before .list-word .ensures) ∙ told-list (now (a .names)) (now (a .ends)) (now (a .steps)) (now (a .lists)) (a .reading) (a .k) (omega arith)
+returns c = let a = c .before .before .before .before .before .before .before .before .before .before .args in c .list-line .ensures ∙ ap (λ (w : ListWord). shown (listLine (now (a .names)) (now (a .ends)) (now (a .steps)) (a .k) w)) (c .before .list-word .ensures) ∙ told-list (now (a .names)) (now (a .ends)) (now (a .steps)) (now (a .lists)) (a .judgement) (a .k) (omega arith)
 
 sub-i : tie.Need-sub-i
 sub-i c = search needs
@@ -39,7 +39,7 @@ move-line-requires : tie.Need-move-line-requires
 move-line-requires c κs = search needs
 
 returns-2 : tie.Need-returns-2
-returns-2 c = let a = c .before .before .before .before .before .before .before .before .before .args in c .move-line .ensures ∙ ap (λ (w : Todo). shown (moveLine (now (a .names)) (now (a .ends)) (now (a .steps)) (a .k - length (now (a .lists))) w)) (c .before .to-do .ensures) ∙ told-move (now (a .names)) (now (a .ends)) (now (a .steps)) (now (a .lists)) (a .reading) (a .k) (omega arith)
+returns-2 c = let a = c .before .before .before .before .before .before .before .before .before .args in c .move-line .ensures ∙ ap (λ (w : Todo). shown (moveLine (now (a .names)) (now (a .ends)) (now (a .steps)) (a .k - length (now (a .lists))) w)) (c .before .to-do .ensures) ∙ told-move (now (a .names)) (now (a .ends)) (now (a .steps)) (now (a .lists)) (a .judgement) (a .k) (omega arith)
 
 pub told-line-spec : {M : Type 1} → statement M
 told-line-spec =

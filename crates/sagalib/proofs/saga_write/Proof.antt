@@ -41,14 +41,14 @@ returns c =
       write .ensures .1,
     )
 
-slice-reshare-prefix-read : tie.Need-slice-reshare-prefix-read
-slice-reshare-prefix-read c = inside c
+slice-reshare-prefix-read-to-first-refusal : tie.Need-slice-reshare-prefix-read-to-first-refusal
+slice-reshare-prefix-read-to-first-refusal c = inside c
 
-slice-aggregate-read : tie.Need-slice-aggregate-read
-slice-aggregate-read c = sym (length-take-le _ _ (inside (c .before)))
+slice-aggregate-read-to-first-refusal : tie.Need-slice-aggregate-read-to-first-refusal
+slice-aggregate-read-to-first-refusal c = sym (length-take-le _ _ (inside (c .before)))
 
-read-requires : tie.Need-read-requires
-read-requires c κs = search needs
+read-to-first-refusal-requires : tie.Need-read-to-first-refusal-requires
+read-to-first-refusal-requires c κs = search needs
 
 outcome-numbers-requires-2 : tie.Need-outcome-numbers-requires-2
 outcome-numbers-requires-2 c κs = search needs
@@ -61,7 +61,7 @@ returns-2 c =
     let a = c .before .before .before .before .before .before .before .before .before .before .before .before .args in
     let write = c .before .before .before .before .before .before .before .before .write in
     let told = c .before .before .before .before .outcome .given in
-    let read = c .before .read in (
+    let read = c .before .read-to-first-refusal in (
       wrote-is (now (a .fields)) (now (a .room)) (write .result) (write .ensures .0) (told .0 .0) (told .1) (write .last .1 .0) (write .ensures .1)
           (read .result) (read .ensures) (c .outcome-numbers2 .result) (c .outcome-numbers2 .ensures),
       write .ensures .1,
@@ -77,9 +77,9 @@ saga-write-spec =
     outcome-numbers-requires
     same-length
     returns
-    slice-reshare-prefix-read
-    slice-aggregate-read
-    read-requires
+    slice-reshare-prefix-read-to-first-refusal
+    slice-aggregate-read-to-first-refusal
+    read-to-first-refusal-requires
     outcome-numbers-requires-2
     same-length-2
     returns-2)

@@ -5,10 +5,10 @@ use Rattle.telling.proofs.print_lines.Statement.{statement}
 use Rattle.telling.proofs.print_lines.Tie as tie
 
 abbrev Inv-loop : tie.InvT-loop
-Inv-loop names ends steps lists reading count k₀ k = k ≤ count
+Inv-loop names ends steps lists judgement count k₀ k = k ≤ count
 
 abbrev μ-loop : tie.MeasureT-loop
-μ-loop names ends steps lists reading count k₀ k = count - k
+μ-loop names ends steps lists judgement count k₀ k = count - k
 
 line-count-requires : tie.Need-line-count-requires Inv-loop μ-loop
 line-count-requires c κs = search needs

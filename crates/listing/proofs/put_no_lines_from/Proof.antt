@@ -1,0 +1,153 @@
+use borrow.Author.Needs.{needs}
+use native.Mathlib.Omega.{arith}
+use Prim.Native.Nat.{ℕ, _-_, _≤_, _<_}
+use mathlib.Core.Path.{_≡_, refl, sym, ap, _∙_, subst}
+use mathlib.Core.List.{List, _++_}
+use lib.ListN.{length, take}
+use denote.Ref.{now}
+use Rattle.terms.specs.Limits.{mostBytes}
+use Rattle.number.specs.Number.{ceiling1}
+use Rattle.items.specs.Items.{itemsAfter}
+use Rattle.tables.specs.declared.Tables.{Tables}
+use Rattle.sheet.specs.Sheet.{Holds}
+use Rattle.rules.specs.States.{emptyState}
+use Rattle.rules.specs.declared.State.{State}
+use Rattle.judge.specs.Lent.{stateIn}
+use Rattle.judge.proofs.ChangeLaws.{empty-in}
+use Rattle.onward.specs.Onward.{Finds, refusedAfter, refusedFrom}
+use Rattle.onward.specs.declared.Found.{Found}
+use Rattle.onward.specs.declared.No.{No}
+use Rattle.onward.proofs.RoomLaws.{Laying, laying-done, laying-more, laying-next, laying-same, laying-start}
+use Rattle.onward.specs.Rooms.{Lays}
+use Rattle.listing.specs.Lines.{noLine, noLines}
+use Rattle.listing.proofs.StepLaws.{nos-end, nos-none, nos-step}
+use Rattle.listing.proofs.put_no_lines_from.Statement.{statement}
+use Rattle.listing.proofs.put_no_lines_from.Tie as tie
+
+abbrev Inv-loop : tie.InvT-loop
+Inv-loop book start count at room₀ sheet transactions₀ ops₀ cursor₀ left₀ end₀ room transactions ops cursor left end =
+    (length room ≡ length room₀)
+    × ((tables : Tables) → Holds tables sheet → length book ≤ mostBytes
+    → Laying at (noLines (take count (refusedFrom tables emptyState 0 (itemsAfter ceiling1 book start)))) room₀ end
+    (noLines (take left (refusedAfter tables ceiling1 book (stateIn transactions ops (cursor .count)) cursor))) room
+    × (cursor .index ≤ cursor .place))
+
+abbrev μ-loop : tie.MeasureT-loop
+μ-loop book start count at room₀ sheet transactions₀ ops₀ cursor₀ left₀ end₀ room transactions ops cursor left end =
+    left
+
+sheet-of-requires : tie.Need-sheet-of-requires Inv-loop μ-loop
+sheet-of-requires c κs = search needs
+
+-- the line of the next refused event, and those behind it
+to-come : (c : tie.After-known-told Inv-loop μ-loop) (tables : Tables) → Holds tables (c .before .before .before .before .before .before .before .before .before .sheet-of .result)
+    → let a = c .before .before .before .before .before .before .before .before .before .before .before .before .args in
+    let l = c .before .before .before .before .before .before .before .before .loop in
+    let ts = c .before .before .before .next-refused .last .1 .1 .1 .0 in
+    let ops = c .before .before .before .next-refused .last .1 .1 .1 .1 .0 in
+    let after = c .before .found .given .0 .1 .0 in
+    length (now (a .book)) ≤ mostBytes
+    → Laying (a .at) (noLines (take (a .count) (refusedFrom tables emptyState 0 (itemsAfter ceiling1 (now (a .book)) (a .start))))) (now (a .room)) (l .end)
+    (noLine (c .before .found .given .0 .0) ++ noLines (take (l .left - 1) (refusedAfter tables ceiling1 (now (a .book)) (stateIn ts ops (after .count)) after))) (l .room)
+    × (after .index ≤ after .place)
+to-come c tables h short =
+    let a = c .before .before .before .before .before .before .before .before .before .before .before .before .args in
+    let l = c .before .before .before .before .before .before .before .before .loop in
+    let n = c .before .before .before .next-refused in
+    let so = l .inv .1 tables h short in
+    let next = subst (λ (f : Found). Finds tables ceiling1 (now (a .book)) (stateIn (l .transactions) (l .ops) (l .cursor .count)) (l .cursor) f (n .last .1 .1 .1 .0) (n .last .1 .1 .1 .1 .0)) (c .before .found .given .1) (n .ensures tables h short (so .1)) in
+    let some : 0 < l .left = omega arith in
+    (laying-same (so .0) (ap (λ (r : List No). noLines (take (l .left) r)) (next .0) ∙ nos-step (l .left) _ _ some), next .1)
+
+loop-holds : tie.Need-loop-holds Inv-loop μ-loop
+loop-holds c =
+    let a = c .before .before .before .args in (
+      refl,
+      λ tables h short. (
+        laying-same (laying-start (a .at) (noLines (take (a .count) (refusedFrom tables emptyState 0 (itemsAfter ceiling1 (now (a .book)) (a .start))))) (now (a .room)))
+            (ap (λ (s : State). noLines (take (a .count) (refusedFrom tables s 0 (itemsAfter ceiling1 (now (a .book)) (a .start))))) (sym empty-in)),
+        omega arith,
+      ),
+    )
+
+next-refused-requires : tie.Need-next-refused-requires Inv-loop μ-loop
+next-refused-requires c κs = search needs
+
+enum-known-found : tie.Need-enum-known-found Inv-loop μ-loop
+enum-known-found c = search needs
+
+no-line-requires : tie.Need-no-line-requires Inv-loop μ-loop
+no-line-requires c κs = search needs
+
+put-at-requires : tie.Need-put-at-requires Inv-loop μ-loop
+put-at-requires c κs =
+    let pre = c .before .before .before .before .before .before .before .before .before .before .before .before .before .before .pre in
+    let go = to-come (c .before .before) (c .before .before .before .before .before .before .before .before .before .before .before .before .before .before .args .tables) (c .before .before .before .before .before .before .before .before .before .before .before .sheet-of .ensures (pre .0)) (pre .1 .0) in
+    let next = laying-next (noLine (c .before .before .before .found .given .0 .0)) _ (go .0) in
+    omega (arith, next, pre .1 .1, ap length (c .before .no-line .ensures))
+
+sub-left : tie.Need-sub-left Inv-loop μ-loop
+sub-left c = search needs
+
+loop-less : tie.Need-loop-less Inv-loop μ-loop
+loop-less c = omega arith
+
+loop-again : tie.Need-loop-again Inv-loop μ-loop
+loop-again c =
+    let l = c .before .before .before .before .before .before .before .before .before .before .before .before .before .loop in
+    let p = c .before .before .put-at in (
+      p .kept .1 .1 .0 ∙ l .inv .0,
+      λ tables h short.
+          let go = to-come (c .before .before .before .before .before) tables h short in
+          let line = subst (λ (t : List ℕ). Lays (l .end) t (l .room) (p .result) (p .last .1 .1 .0)) (c .before .before .before .before .no-line .ensures) (p .ensures) in
+          (laying-more (noLine (c .before .before .before .before .before .before .found .given .0 .0)) _ (p .result) (p .last .1 .1 .0) (go .0) line (p .kept .1 .1 .0), go .1),
+    )
+
+enum-told : tie.Need-enum-told Inv-loop μ-loop
+enum-told c = search needs
+
+same-length : tie.Need-same-length Inv-loop μ-loop
+same-length c = search needs
+
+returns : tie.Need-returns Inv-loop μ-loop
+returns c =
+    let a = c .before .before .before .before .before .before .before .before .before .before .before .args in
+    let pre = c .before .before .before .before .before .before .before .before .before .before .before .pre in
+    let l = c .before .before .before .before .before .before .before .loop in
+    let n = c .before .before .next-refused in
+    let h = c .before .before .before .before .before .before .before .before .sheet-of .ensures (pre .0) in
+    let so = l .inv .1 (a .tables) h (pre .1 .0) in
+    let none = subst (λ (x : Found). Finds (a .tables) ceiling1 (now (a .book)) (stateIn (l .transactions) (l .ops) (l .cursor .count)) (l .cursor) x (n .last .1 .1 .1 .0) (n .last .1 .1 .1 .1 .0)) (c .enum-told .given .1) (n .ensures (a .tables) h (pre .1 .0) (so .1)) in
+    laying-done (so .0) (nos-none (l .left) none)
+
+same-length-2 : tie.Need-same-length-2 Inv-loop μ-loop
+same-length-2 c = search needs
+
+returns-2 : tie.Need-returns-2 Inv-loop μ-loop
+returns-2 c =
+    let a = c .before .before .before .before .before .args in
+    let pre = c .before .before .before .before .before .pre in
+    let l = c .before .loop in
+    let so = l .inv .1 (a .tables) (c .before .before .sheet-of .ensures (pre .0)) (pre .1 .0) in
+    laying-done (so .0) (nos-end (l .left) _ (omega arith))
+
+pub put-no-lines-from-spec : {M : Type 1} → statement M
+put-no-lines-from-spec =
+    tie.close
+    (tie.spec
+    Inv-loop
+    μ-loop
+    sheet-of-requires
+    loop-holds
+    next-refused-requires
+    enum-known-found
+    no-line-requires
+    put-at-requires
+    sub-left
+    loop-less
+    loop-again
+    enum-told
+    same-length
+    returns
+    same-length-2
+    returns-2)
