@@ -24,7 +24,7 @@ extern "C" {
 /* The most transactions that a book has: a list of so many numbers holds every order to replay in. */
 #define SAGA_TRANSACTIONS 64
 
-/* The ways of reading a book. SAGA_PERMIT_CIRCLES is added to one of the others. */
+/* The ways of reading a book. SAGA_PERMIT_CIRCLES goes with one of the others, by |. Of a larger number what is left of it by fours counts. */
 enum saga_way {
   SAGA_READ_ON = 0,          /* on past refused events: one of them changes nothing, and the next is judged */
   SAGA_TO_FIRST_REFUSAL = 1, /* to the first refusal, which is then the answer */
@@ -33,7 +33,7 @@ enum saga_way {
 
 /* Why something is refused. */
 enum saga_refusal {
-  SAGA_ACCEPTED = 0,         /* nothing is refused */
+  SAGA_ACCEPTED = 0,         /* nothing ended the reading, and the room was large enough; events may have been passed over */
   SAGA_TOO_LONG = 1,         /* book over 65,536 bytes */
   SAGA_TORN = 2,             /* book ends inside a number, or before a field that is due */
   SAGA_BAD_NUMBER = 3,       /* a number that is not in its shortest form, or above 65,535 */
@@ -60,9 +60,9 @@ enum saga_refusal {
 
 /* The answer of every function that can refuse: always the same four numbers. */
 struct saga_answer {
-  uint64_t refusal; /* a saga_refusal: 0 if nothing is refused */
+  uint64_t refusal; /* a saga_refusal: 0 if nothing ended the reading; see count */
   uint64_t events;  /* how many events of the book are accepted, before the refusal if there is one */
-  uint64_t place;   /* where the refusal is: in bytes of the book, or for saga_write in fields; 0 if nothing is refused */
+  uint64_t place;   /* where the refusal is: in bytes of the book, or for saga_write in fields; 0 if there is none */
   uint64_t count;   /* how many bytes, fields or transactions were written, 0 after a refusal; of saga_read, how many events were passed over */
 };
 
@@ -80,13 +80,14 @@ struct saga_step {
    refused by any other and passed over. To the first refusal, the answer is that, and no event is passed over. */
 void saga_read(const uint8_t *book, size_t book_size, uint64_t way, struct saga_answer *answer);
 
-/* Puts the events that were refused and passed over at the front of the list, those before which `skip` others or more come: for each its index, where all
+/* Puts the events that were refused and passed over at the front of the list, without the first `skip` of them: for each its index, where all
    events are counted from 0, and then the number of its saga_refusal, so that the k-th has list[2 * k] and list[2 * k + 1]. As many as fit; list_size counts
-   numbers. It returns how many events that are, 0 to the first refusal. What lies behind them in the list stays as it was. */
+   numbers. It returns how many events that are, 0 where the book is read to the first refusal. All fit into twice as many numbers as saga_read's count; an odd last number is not
+   used. Each call reads the book from its start. What lies behind them in the list stays as it was. */
 uint64_t saga_refused(const uint8_t *book, size_t book_size, uint64_t way, uint64_t skip, uint64_t *list, size_t list_size);
 
-/* How many bytes the accepted opening of a book has: those before the first event that is refused or torn. A writer that finds its book torn goes on
-   after these. */
+/* How many bytes the accepted opening of a book has: those before the first event that is refused, or where reading ends, 0 if the tables are refused. Accepted events behind a
+   refused one are not in it: whoever goes on writing there drops them. */
 uint64_t saga_opening(const uint8_t *book, size_t book_size);
 
 /* Puts the listing of a book at the front of the room; the answer's count is how many bytes it has. 19 is the only refusal here, since every book has a
@@ -94,11 +95,11 @@ uint64_t saga_opening(const uint8_t *book, size_t book_size);
 void saga_listing(const uint8_t *book, size_t book_size, uint64_t way, uint8_t *room, size_t room_size, struct saga_answer *answer);
 
 /* What is to be done next for the saga of an index, counted from 0, after the accepted events of a book. Above 0 outstanding, the step is
-   accepted as the next event and leaves one less. An index that is no saga's has nothing to do. */
+   accepted as the next event and leaves one less. An index that is no saga's has nothing to do; nor has any of a book whose tables are refused, so ask saga_read first. */
 void saga_next(const uint8_t *book, size_t book_size, uint64_t way, uint64_t saga, struct saga_step *step);
 
 /* How much is left after the accepted events of a book: the sum of what saga_next calls outstanding over all sagas. Taking all closing steps, saga
-   after saga, settles every begun saga in as many events. */
+   after saga, settles every begun saga in as many events. 0 if the tables are refused: ask saga_read first. */
 uint64_t saga_left(const uint8_t *book, size_t book_size, uint64_t way);
 
 /* Puts the transactions that hold a committed operation after the accepted events of a book at the front of the list, in an order in which their committed

@@ -42,11 +42,11 @@ impl Way {
 /// The answer of every function that can refuse: always the same four numbers.
 #[derive(Clone, Copy, Debug, PartialEq, Eq)]
 pub struct Answer {
-    /// The refusal's number in the table of refusals; 0 if nothing is refused.
+    /// The refusal's number in the table of refusals; 0 if nothing ended the reading; see `count`.
     pub refusal: u64,
     /// How many events of the book are accepted, before the refusal if there is one.
     pub events: u64,
-    /// Where the refusal is: in bytes of the book, or for `write` in fields; 0 if nothing is refused.
+    /// Where the refusal is: in bytes of the book, or for `write` in fields; 0 if there is none.
     pub place: u64,
     /// How many bytes, fields or transactions were written, 0 after a refusal; of `read`, how many events were passed over.
     pub count: u64,
@@ -144,8 +144,8 @@ pub fn read(book: &[u8], way: Way) -> Answer {
     answered(answer)
 }
 
-/// Puts the events that were refused and passed over at the front of the list, those before which `skip` others or more come: for each its index, where all
-/// events are counted from 0, and then the number of its refusal. As many as fit; the answer is how many events that are, 0 to the first refusal.
+/// Puts the events that were refused and passed over at the front of the list, without the first `skip` of them: for each its index, where all
+/// events are counted from 0, and then the number of its refusal. As many as fit; the answer is how many events that are, 0 where the book is read to the first refusal.
 pub fn refused(book: &[u8], way: Way, skip: u64, list: &mut [u64]) -> u64 {
     unsafe {
         archive::saga_refused(
@@ -159,8 +159,8 @@ pub fn refused(book: &[u8], way: Way, skip: u64, list: &mut [u64]) -> u64 {
     }
 }
 
-/// The accepted opening of a book: the bytes before the first event that is refused or torn. A writer that finds its book torn goes on after
-/// these.
+/// The accepted opening of a book: the bytes before the first event that is refused, or where reading ends; none if the tables are refused. Accepted events behind a
+/// refused one are not in it: whoever goes on writing there drops them.
 pub fn opening(book: &[u8]) -> &[u8] {
     let size = unsafe { archive::saga_opening(book.as_ptr(), book.len()) };
     &book[..size as usize]
