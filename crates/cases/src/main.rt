@@ -12,6 +12,7 @@ use input::Filled;
 use libc::STDERR_FILENO;
 use libc::STDIN_FILENO;
 use libc::STDOUT_FILENO;
+use listing::Listing;
 use listing::Put;
 use number::Number;
 use onward::Judgement;
@@ -89,7 +90,7 @@ fn say_listing_in(way: Way, circles: Circles, bytes: &[u8], room: &mut [u8]) {
 
 // The listing, in a room that holds every listing.
 fn say_listing(way: Way, circles: Circles, bytes: &[u8]) {
-    let mut room = [0u8; 425231];
+    let mut room = [0u8; Listing::MOST];
     say_listing_in(way, circles, bytes, &mut room);
 }
 

@@ -121,9 +121,6 @@ line-whole r k e = let h = line-fits r k in e ∙ all-fits [] (lineOf r k) (omeg
 no-fits : (x : No) → length (noLine x) < mostText
 no-fits x = simp length-append (omega (arith, decimal-le (x .index), decimal-le (numberOf (x .refusal))))
 
-pub no-whole : (x : No) {l : List ℕ} → l ≡ withAll [] (noLine x) → l ≡ noLine x
-no-whole x e = let h = no-fits x in e ∙ all-fits [] (noLine x) (omega arith)
-
 pub no-size : (x : No) → (0 < length (noLine x)) × (length (noLine x) ≤ mostText)
 no-size x = let h = no-fits x in (simp length-append (omega arith), omega arith)
 

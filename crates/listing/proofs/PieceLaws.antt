@@ -7,15 +7,12 @@ use lib.ListN.{length, take, drop, length-drop, drop-of-length-le}
 use lib.Seq.{take-all, drop-drop}
 use Rattle.onward.specs.Rooms.{laid}
 use Rattle.onward.specs.declared.No.{No}
-use Rattle.onward.proofs.RoomLaws.{laid-behind, laid-length, laid-until}
+use Rattle.onward.proofs.RoomLaws.{laid-behind, laid-until}
 use Rattle.listing.specs.Lines.{noLine, noLines}
 
 module _ (room line : List ℕ) (b n : ℕ) (long : length line ≡ n) (fits : b + n ≤ length room) where
   pub front-then : take (b + n) (laid b line room) ≡ take b room ++ line
   front-then = ap (λ (i : ℕ). take (b + i) (laid b line room)) (sym long) ∙ laid-until b line room (omega arith)
-
-  pub then-long : length (laid b line room) ≡ length room
-  then-long = laid-length b line room (omega arith) (omega (arith, long))
 
   pub rest-then : drop (b + n) (laid b line room) ≡ drop (b + n) room
   rest-then =

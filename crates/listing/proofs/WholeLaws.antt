@@ -2,7 +2,7 @@
 use Prim.Native.Nat.{ℕ, _+_, _-_, _≤_}
 use native.Mathlib.Omega.{arith}
 use mathlib.Core.Path.{_≡_, refl, sym, ap, _∙_}
-use mathlib.Core.List.{List, [], _∷_, _++_}
+use mathlib.Core.List.{List, _++_}
 use lib.ListN.{length, take, drop}
 use lib.Seq.{take-all}
 use Rattle.laws.proofs.Decisions.{lt-or}
@@ -55,11 +55,6 @@ module _ (circles : Circles) (cap : ℕ) (s : List ℕ) where
   all-listed = take-all (judgementBy circles cap s .refused) (refusedBy circles cap s) (omega (arith, all-counted))
 
 -- ---- into a room
-
--- a room of no bytes stays as it is
-pub none-of-none : (l : List ℕ) → length l ≡ 0 → l ≡ []
-none-of-none [] e = refl
-none-of-none (x ∷ l) e = absurd (omega arith)
 
 -- what was laid at the front of a room that holds it was put there
 pub laid-put : (l room : List ℕ) (size end : ℕ) (after : List ℕ) → size ≡ 0 + length l → size ≤ length room → Lays 0 l room end after

@@ -6,6 +6,7 @@ use mathlib.Core.Bool.{true, false}
 use mathlib.Core.List.{List, []}
 use borrow.Author.Tests.{lt-ltb, le-ltb}
 use lib.ListN.{length, take, length-take, drop-of-length-le}
+use Rattle.laws.proofs.Bools.{bool-cases}
 use Rattle.terms.specs.Refusals.{verdictNumber}
 use Rattle.terms.specs.declared.Refusal.{Refusal}
 use Rattle.number.specs.Number.{ceiling1}
@@ -28,6 +29,7 @@ use Rattle.onward.specs.declared.No.{No}
 use Rattle.listing.specs.Lines.{listingBy, listingOf}
 use Rattle.listing.specs.Texts.{putAnswer}
 use Rattle.listing.specs.declared.Put.{Put}
+use Rattle.listing.proofs.WholeLaws.{all-listed, listed}
 use Rattle.sagalib.specs.Numbers.{reading, readsOn, circlesIn, judged, refusedIn, four, readNumbers, outcomeNumbers, unpackNumbers, writeNumbers, listingIn, listingOutcome, listingNumbers, orderOutcome, replayNumbers, stepNumbers, nextNumbers}
 
 -- ---- one of the ways of reading, and what rests on it
@@ -69,7 +71,7 @@ module _ (way : ℕ) (s : List ℕ) (circles : Circles) (c : circles ≡ circles
     unfolding refusedIn
     refused-on = rw (on, c)
 
-    pub listing-on : listingBy circles ceiling1 s ≡ listingIn way s
+    listing-on : listingBy circles ceiling1 s ≡ listingIn way s
     unfolding listingIn
     listing-on = ap₂ listingOf judged-on refused-on
 
@@ -79,9 +81,18 @@ module _ (way : ℕ) (s : List ℕ) (circles : Circles) (c : circles ≡ circles
     unfolding judged
     judged-to = rw (to, c)
 
-    pub listing-to : listingOf (judgementTo (readingBy circles ceiling1 s)) [] ≡ listingIn way s
+    listing-to : listingOf (judgementTo (readingBy circles ceiling1 s)) [] ≡ listingIn way s
     unfolding listingIn
     listing-to = ap₂ listingOf judged-to (sym (refused-to way s to))
+
+  -- the listing lists as many refused events as the judgement counts
+  pub listing-told : listingOf (judged way s) (listed (judged way s) circles s) ≡ listingIn way s
+  listing-told =
+      bool-cases (readsOn way)
+      (λ on.
+      ap (λ (r : Judgement). listingOf r (listed r circles s)) (sym (judged-on on))
+      ∙ ap (listingOf (judgementBy circles ceiling1 s)) (all-listed circles ceiling1 s) ∙ listing-on on)
+      (λ to. ap (λ (r : Judgement). listingOf r (listed r circles s)) (sym (judged-to to)) ∙ listing-to to)
 
 module _ (way : ℕ) (s : List ℕ) (r : Judgement) (read : r ≡ judged way s) where
   pub read-is : (number : ℕ) → number ≡ verdictNumber (r .answer) → four number (r .events) (r .place) (r .refused) ≡ readNumbers way s

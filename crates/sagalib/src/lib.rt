@@ -21,7 +21,7 @@ ghost use Rattle.replay.specs.Replay.{copyRoom};
 ghost use Rattle.book.specs.Reading.{openingOf};
 ghost use Rattle.book.specs.Packing.{unpackedRoom, writtenRoom};
 ghost use Rattle.onward.specs.Onward.{fitting, listedIn};
-ghost use Rattle.listing.specs.Texts.{putAnswer, putRoom};
+ghost use Rattle.listing.specs.Texts.{putRoom};
 ghost use Rattle.sagalib.specs.Numbers.{readsOn, circlesIn, judged, refusedIn, readNumbers, outcomeNumbers, unpackNumbers, writeNumbers, listingIn, listingOutcome, listingNumbers, orderOutcome, orderIn, replayNumbers, stepNumbers, nextNumbers};
 
 // The answer after writing for a book of so many accepted events; a refusal says by itself how many it came after.
@@ -136,25 +136,15 @@ pub extern "C" fn saga_opening(book: &[u8]) -> u64
     opening.len() as u64
 }
 
-// Puts the listing of a book that is read in one of the ways at the front of a lent room.
-fn put_listing(book: &[u8], way: u64, room: &mut [u8]) -> Put
-    ensures { λ r. ⌜ (r ≡ putAnswer (listingIn way (now (book .entry))) (now (room .entry))) × (now (room .exit) ≡ putRoom (listingIn way (now (book .entry))) (now (room .entry))) ⌝ }
-{
-    let circles = circles_in(way);
-    if reads_on(way) {
-        return listing::put_listing(book, circles, room);
-    }
-    listing::put_listing_to_first_refusal(book, circles, room)
-}
-
 // Puts the listing of a book at the front of a lent room.
 #[no_mangle]
 pub extern "C" fn saga_listing(book: &[u8], way: u64, room: &mut [u8], answer: &mut [u64; 4])
     ensures { λ _. ⌜ (now (answer .exit) ≡ listingNumbers way (now (book .entry)) (now (room .entry))) × (now (room .exit) ≡ putRoom (listingIn way (now (book .entry))) (now (room .entry))) ⌝ }
 {
+    let circles = circles_in(way);
     let read = judged(book, way);
     let events = read.events;
-    let put = put_listing(book, way, room);
+    let put = listing::put_whole(read, book, circles, room);
     let outcome = listing_outcome(events, put);
     let numbers = outcome_numbers(events, outcome);
     *answer = numbers;

@@ -18,7 +18,6 @@ use Rattle.onward.specs.Onward.{Finds, refusedAfter, refusedFrom}
 use Rattle.onward.specs.declared.Found.{Found}
 use Rattle.onward.specs.declared.No.{No}
 use Rattle.onward.proofs.RoomLaws.{Laying, laying-done, laying-more, laying-next, laying-same, laying-start}
-use Rattle.onward.specs.Rooms.{Lays}
 use Rattle.listing.specs.Lines.{noLine, noLines}
 use Rattle.listing.proofs.StepLaws.{nos-end, nos-none, nos-step}
 use Rattle.listing.proofs.put_no_lines_from.Statement.{statement}
@@ -76,15 +75,12 @@ next-refused-requires c κs = search needs
 enum-known-found : tie.Need-enum-known-found Inv-loop μ-loop
 enum-known-found c = search needs
 
-no-line-requires : tie.Need-no-line-requires Inv-loop μ-loop
-no-line-requires c κs = search needs
-
-put-at-requires : tie.Need-put-at-requires Inv-loop μ-loop
-put-at-requires c κs =
-    let pre = c .before .before .before .before .before .before .before .before .before .before .before .before .before .before .pre in
-    let go = to-come (c .before .before) (c .before .before .before .before .before .before .before .before .before .before .before .before .before .before .args .tables) (c .before .before .before .before .before .before .before .before .before .before .before .sheet-of .ensures (pre .0)) (pre .1 .0) in
-    let next = laying-next (noLine (c .before .before .before .found .given .0 .0)) _ (go .0) in
-    omega (arith, next, pre .1 .1, ap length (c .before .no-line .ensures))
+lay-no-requires : tie.Need-lay-no-requires Inv-loop μ-loop
+lay-no-requires c κs =
+    let s = c .before .before .before .before .before .before .before .before .before .before .before .before .before in
+    let go = to-come (c .before) (s .args .tables) (c .before .before .before .before .before .before .before .before .before .before .sheet-of .ensures (s .pre .0)) (s .pre .1 .0) in
+    let next = laying-next (noLine (c .before .before .found .given .0 .0)) _ (go .0) in
+    omega (arith, next, s .pre .1 .1)
 
 sub-left : tie.Need-sub-left Inv-loop μ-loop
 sub-left c = search needs
@@ -94,13 +90,12 @@ loop-less c = omega arith
 
 loop-again : tie.Need-loop-again Inv-loop μ-loop
 loop-again c =
-    let l = c .before .before .before .before .before .before .before .before .before .before .before .before .before .loop in
-    let p = c .before .before .put-at in (
+    let l = c .before .before .before .before .before .before .before .before .before .before .before .before .loop in
+    let p = c .before .before .lay-no in (
       p .kept .1 .1 .0 ∙ l .inv .0,
       λ tables h short.
-          let go = to-come (c .before .before .before .before .before) tables h short in
-          let line = subst (λ (t : List ℕ). Lays (l .end) t (l .room) (p .result) (p .last .1 .1 .0)) (c .before .before .before .before .no-line .ensures) (p .ensures) in
-          (laying-more (noLine (c .before .before .before .before .before .before .found .given .0 .0)) _ (p .result) (p .last .1 .1 .0) (go .0) line (p .kept .1 .1 .0), go .1),
+          let go = to-come (c .before .before .before .before) tables h short in
+          (laying-more (noLine (c .before .before .before .before .before .found .given .0 .0)) _ (p .result) (p .last .1 .1 .0) (go .0) (p .ensures) (p .kept .1 .1 .0), go .1),
     )
 
 enum-told : tie.Need-enum-told Inv-loop μ-loop
@@ -141,8 +136,7 @@ put-no-lines-from-spec =
     loop-holds
     next-refused-requires
     enum-known-found
-    no-line-requires
-    put-at-requires
+    lay-no-requires
     sub-left
     loop-less
     loop-again
