@@ -18,8 +18,13 @@ extern "C" {
 /* The most bytes that a book has, and so the most fields. */
 #define SAGA_BOOK_BYTES 65536
 
+/* The largest field of a book: that of edition 1, where no record stands beside an operation, and that of edition 2. The edition itself, which is the first field, is
+   never above the first of them. */
+#define SAGA_MOST_1 65535
+#define SAGA_MOST_2 2097151
+
 /* A room of so many bytes holds every listing. */
-#define SAGA_LISTING_BYTES 425231
+#define SAGA_LISTING_BYTES 427927
 
 /* The most transactions that a book has: a list of so many numbers holds every order to replay in. */
 #define SAGA_TRANSACTIONS 64
@@ -36,8 +41,8 @@ enum saga_refusal {
   SAGA_ACCEPTED = 0,         /* nothing ended the reading, and the room was large enough; events may have been passed over */
   SAGA_TOO_LONG = 1,         /* book over 65,536 bytes */
   SAGA_TORN = 2,             /* book ends inside a number, or before a field that is due */
-  SAGA_BAD_NUMBER = 3,       /* a number that is not in its shortest form, or above 65,535 */
-  SAGA_BAD_EDITION = 4,      /* edition not 1 */
+  SAGA_BAD_NUMBER = 3,       /* a number that is not in its shortest form, or above the ceiling of the edition */
+  SAGA_BAD_EDITION = 4,      /* edition not 1 or 2 */
   SAGA_BAD_COUNT = 5,        /* a table count out of its range, or more than 64 transactions */
   SAGA_BAD_DEPENDENCY = 6,   /* a dependency that may not be declared, or is not rising */
   SAGA_BAD_CODE = 7,         /* event code not on the list of events */
@@ -110,12 +115,12 @@ void saga_replay(const uint8_t *book, size_t book_size, uint64_t way, uint16_t *
 
 /* Puts the fields of a book that is accepted whole at the front of the room; the answer's count is how many there are, never more than the
    book has bytes. Refusals are those of saga_read to the first refusal, then 19; each leaves the room as it was. What lies behind the fields stays as it was. */
-void saga_unpack(const uint8_t *book, size_t book_size, uint16_t *room, size_t room_size, struct saga_answer *answer);
+void saga_unpack(const uint8_t *book, size_t book_size, uint32_t *room, size_t room_size, struct saga_answer *answer);
 
 /* Puts the bytes of fields that are a book at the front of the room; the answer's count is how many bytes there are, never more than three
-   for a field. Refusals are those of saga_read to the first refusal, with the place counted in fields, then 19; each leaves the room as it was. What lies behind
-   the bytes stays as it was. It keeps a book of 64 KiB on the stack. */
-void saga_write(const uint16_t *fields, size_t field_count, uint8_t *room, size_t room_size, struct saga_answer *answer);
+   for a field. Refusals are those of saga_read to the first refusal, with the place counted in fields, then 19; each leaves the room as it was. A field above the
+   ceiling of the edition is refused by 3 at its own place, and counts as three bytes where 1 is judged. What lies behind the bytes stays as it was. It keeps a book of 64 KiB on the stack. */
+void saga_write(const uint32_t *fields, size_t field_count, uint8_t *room, size_t room_size, struct saga_answer *answer);
 
 #ifdef __cplusplus
 }

@@ -9,8 +9,14 @@ compile_error!("libsagalib.a is code for x86-64");
 /// The most bytes that a book has, and so the most fields.
 pub const BOOK_BYTES: usize = 65_536;
 
+/// The largest field of a book of edition 1, where no record stands beside an operation. The edition itself, which is the first field, is never above it.
+pub const MOST_1: u32 = 65_535;
+
+/// The largest field of a book of edition 2.
+pub const MOST_2: u32 = 2_097_151;
+
 /// A room of so many bytes holds every listing.
-pub const LISTING_BYTES: usize = 425_231;
+pub const LISTING_BYTES: usize = 427_927;
 
 /// The most transactions that a book has: a list of so many numbers holds every order to replay in.
 pub const TRANSACTIONS: usize = 64;
@@ -109,12 +115,12 @@ mod archive {
         pub fn saga_unpack(
             book: *const u8,
             book_size: usize,
-            room: *mut u16,
+            room: *mut u32,
             room_size: usize,
             answer: *mut [u64; 4],
         );
         pub fn saga_write(
-            fields: *const u16,
+            fields: *const u32,
             field_count: usize,
             room: *mut u8,
             room_size: usize,
@@ -223,7 +229,7 @@ pub fn replay(book: &[u8], way: Way, list: &mut [u16]) -> Answer {
 
 /// Puts the fields of a book that is accepted whole at the front of the room. There are never more fields than the book has bytes.
 /// Refusals are those of `read` to the first refusal, then 19.
-pub fn unpack(book: &[u8], room: &mut [u16]) -> Answer {
+pub fn unpack(book: &[u8], room: &mut [u32]) -> Answer {
     let mut answer = [0; 4];
     unsafe {
         archive::saga_unpack(
@@ -238,8 +244,9 @@ pub fn unpack(book: &[u8], room: &mut [u16]) -> Answer {
 }
 
 /// Puts the bytes of fields that are a book at the front of the room. There are never more than three for a field. Refusals are those of
-/// `read` to the first refusal, with the place counted in fields, then 19. It keeps a book of 64 KiB on the stack.
-pub fn write(fields: &[u16], room: &mut [u8]) -> Answer {
+/// `read` to the first refusal, with the place counted in fields, then 19. A field above the ceiling of the edition is refused by 3 at its own place, and counts as three
+/// bytes where 1 is judged. It keeps a book of 64 KiB on the stack.
+pub fn write(fields: &[u32], room: &mut [u8]) -> Answer {
     let mut answer = [0; 4];
     unsafe {
         archive::saga_write(

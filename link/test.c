@@ -42,7 +42,8 @@ static void check_step(int line, struct saga_step s, uint64_t event, uint64_t tr
 
 /* What rooms and answers hold before a call, so that a number that is not written shows. */
 static const uint8_t byte_pattern = 0xA5;
-static const uint16_t field_pattern = 0xA5C3;
+static const uint32_t field_pattern = 0xA5C3A5C3;
+static const uint16_t order_pattern = 0xA5C3;
 static const struct saga_answer no_answer = {77, 77, 77, 77};
 static const struct saga_step no_step = {77, 77, 77};
 
@@ -50,7 +51,7 @@ static void fill_bytes(uint8_t *room, size_t n) {
   for (size_t i = 0; i < n; i++) room[i] = byte_pattern;
 }
 
-static void fill_fields(uint16_t *room, size_t n) {
+static void fill_fields(uint32_t *room, size_t n) {
   for (size_t i = 0; i < n; i++) room[i] = field_pattern;
 }
 
@@ -60,9 +61,19 @@ static int bytes_untouched(const uint8_t *room, size_t from, size_t to) {
   return 1;
 }
 
-static int fields_untouched(const uint16_t *room, size_t from, size_t to) {
+static int fields_untouched(const uint32_t *room, size_t from, size_t to) {
   for (size_t i = from; i < to; i++)
     if (room[i] != field_pattern) return 0;
+  return 1;
+}
+
+static void fill_order(uint16_t *list, size_t n) {
+  for (size_t i = 0; i < n; i++) list[i] = order_pattern;
+}
+
+static int order_untouched(const uint16_t *list, size_t from, size_t to) {
+  for (size_t i = from; i < to; i++)
+    if (list[i] != order_pattern) return 0;
   return 1;
 }
 
@@ -146,7 +157,7 @@ static void after_the_listing(void) {
   LISTING(book, 26, SAGA_READ_ON, "book accepted 7\nno 7 13\n" LATER_LINES, 7);
   STEP(next_step(book, 26, 0), SAGA_BEGIN, 3, 2);
 
-  uint16_t fields[32];
+  uint32_t fields[32];
   struct saga_answer answer = no_answer;
   fill_fields(fields, 32);
   saga_unpack(book, 26, fields, 32, &answer);
@@ -239,7 +250,7 @@ static void empty_and_torn(void) {
   CHECK(saga_opening(listed, 4) == 0);
   CHECK(saga_left(listed, 4, SAGA_READ_ON) == 0);
 
-  uint16_t fields[32];
+  uint32_t fields[32];
   struct saga_answer answer = no_answer;
   fill_fields(fields, 32);
   saga_unpack(listed, 0, fields, 32, &answer);
@@ -283,18 +294,18 @@ static void check_order(int at, size_t size, uint64_t events, size_t n) {
   size_t rooms[] = {SAGA_TRANSACTIONS, n};
   for (size_t i = 0; i < 2; i++) {
     struct saga_answer answer = no_answer;
-    fill_fields(list, SAGA_TRANSACTIONS);
+    fill_order(list, SAGA_TRANSACTIONS);
     saga_replay(replayed, size, SAGA_READ_ON, list, rooms[i], &answer);
     check_answer(at, answer, 0, events, 0, n);
     check(at, memcmp(list, order, n * sizeof list[0]) == 0, "the order");
-    check(at, fields_untouched(list, n, SAGA_TRANSACTIONS), "behind the order");
+    check(at, order_untouched(list, n, SAGA_TRANSACTIONS), "behind the order");
   }
   for (size_t room = 0; room < n; room++) {
     struct saga_answer answer = no_answer;
-    fill_fields(list, SAGA_TRANSACTIONS);
+    fill_order(list, SAGA_TRANSACTIONS);
     saga_replay(replayed, size, SAGA_READ_ON, list, room, &answer);
     check_answer(at, answer, SAGA_NO_ROOM, events, 0, 0);
-    check(at, fields_untouched(list, 0, SAGA_TRANSACTIONS), "a list that is too short");
+    check(at, order_untouched(list, 0, SAGA_TRANSACTIONS), "a list that is too short");
   }
 }
 
@@ -309,7 +320,7 @@ static void replayed_in_order(void) {
 }
 
 static void unpacked_and_written(void) {
-  uint16_t fields[32];
+  uint32_t fields[32];
   struct saga_answer answer = no_answer;
   fill_fields(fields, 32);
   saga_unpack(listed, listed_size, fields, 23, &answer);
@@ -355,7 +366,7 @@ static void unpacked_and_written(void) {
   CHECK(bytes_untouched(room, 0, 32));
 
   /* a field of two bytes before the place: bytes are counted in reading, fields in writing */
-  static const uint16_t torn[] = {1, 0, 1, 1, 0, 5, 300};
+  static const uint32_t torn[] = {1, 0, 1, 1, 0, 5, 300};
   static const uint8_t torn_bytes[] = {0x01, 0x00, 0x01, 0x01, 0x00, 0x05, 0xAC, 0x02};
   answer = no_answer;
   saga_write(torn, 7, room, 32, &answer);
@@ -365,10 +376,79 @@ static void unpacked_and_written(void) {
   CHECK(saga_opening(torn_bytes, 8) == 5);
 }
 
+/* Fields are not written, and the room is left as it was. */
+static void check_not_written(int at, const uint32_t *fields, size_t n, uint64_t refusal, uint64_t events, uint64_t place) {
+  uint8_t room[128];
+  struct saga_answer answer = no_answer;
+  fill_bytes(room, sizeof room);
+  saga_write(fields, n, room, sizeof room, &answer);
+  check_answer(at, answer, refusal, events, place, 0);
+  check(at, bytes_untouched(room, 0, sizeof room), "a room that is not written");
+}
+
+#define NOT_WRITTEN(fields, n, refusal, events, place) check_not_written(__LINE__, (fields), (n), (refusal), (events), (place))
+
+/* The listing's book in edition 2, with the largest record beside its operation. */
+static void edition_two(void) {
+  uint8_t book[27];
+  memcpy(book, listed, 16);
+  book[0] = 0x02;
+  memcpy(book + 16, "\xFF\xFF\x7F", 3);
+  memcpy(book + 19, listed + 16, 8);
+  ANSWER(read_book(book, 27), 0, 7, 0, 0);
+  LISTING(book, 27, SAGA_READ_ON,
+          "book accepted 7\nt 0 aborted\nt 1 committed\nt 2 idle\nt 3 idle\nt 4 active\nop 0 0 write 4 active 2097151\nsaga 0 2 begin 3\n", 7);
+  LISTING(book, 27, SAGA_TO_FIRST_REFUSAL,
+          "book accepted 7\nt 0 aborted\nt 1 committed\nt 2 idle\nt 3 idle\nt 4 active\nop 0 0 write 4 active 2097151\nsaga 0 2 begin 3\n", 7);
+  STEP(next_step(book, 27, 0), SAGA_BEGIN, 3, 2);
+  /* without its record the operation is torn */
+  ANSWER(read_book(book, 16), SAGA_TORN, 3, 16, 0);
+
+  uint32_t fields[32];
+  uint8_t room[32];
+  struct saga_answer answer = no_answer;
+  fill_fields(fields, 32);
+  saga_unpack(book, 27, fields, 32, &answer);
+  ANSWER(answer, 0, 7, 0, 25);
+  CHECK(fields[0] == 2 && fields[16] == SAGA_MOST_2);
+  CHECK(fields_untouched(fields, 25, 32));
+  answer = no_answer;
+  fill_bytes(room, 32);
+  saga_write(fields, 25, room, 32, &answer);
+  ANSWER(answer, 0, 7, 0, 27);
+  CHECK(memcmp(room, book, 27) == 0);
+  CHECK(bytes_untouched(room, 27, 32));
+
+  /* above the ceiling, by one and by much */
+  fields[16] = SAGA_MOST_2 + 1;
+  NOT_WRITTEN(fields, 25, SAGA_BAD_NUMBER, 3, 16);
+  fields[16] = 0xFFFFFFFF;
+  NOT_WRITTEN(fields, 25, SAGA_BAD_NUMBER, 3, 16);
+  /* in edition 1 no record stands there, and the next event has no such code */
+  fields[0] = 1;
+  fields[16] = SAGA_MOST_1;
+  NOT_WRITTEN(fields, 25, SAGA_BAD_CODE, 4, 16);
+  fields[16] = SAGA_MOST_1 + 1;
+  NOT_WRITTEN(fields, 25, SAGA_BAD_NUMBER, 4, 16);
+  /* the edition itself is always under the first ceiling */
+  fields[0] = 3;
+  NOT_WRITTEN(fields, 25, SAGA_BAD_EDITION, 0, 0);
+  fields[0] = SAGA_MOST_1;
+  NOT_WRITTEN(fields, 25, SAGA_BAD_EDITION, 0, 0);
+  fields[0] = 70000;
+  NOT_WRITTEN(fields, 25, SAGA_BAD_NUMBER, 0, 0);
+  /* a table count between the two */
+  fields[1] = SAGA_MOST_1 + 1;
+  fields[0] = 1;
+  NOT_WRITTEN(fields, 25, SAGA_BAD_NUMBER, 0, 1);
+  fields[0] = 2;
+  NOT_WRITTEN(fields, 25, SAGA_BAD_COUNT, 0, 1);
+}
+
 /* A book of 65,536 bytes: two plain transactions hand one operation to and fro. With one byte more it is too long. */
 static uint8_t longest[SAGA_BOOK_BYTES + 1];
 static uint8_t bytes_back[SAGA_BOOK_BYTES + 1];
-static uint16_t fields_back[SAGA_BOOK_BYTES + 1];
+static uint32_t fields_back[SAGA_BOOK_BYTES + 1];
 
 static void long_books(void) {
   static const uint8_t start[16] = {0x01, 0x00, 0x02, 0x01, 0x01, 0x01, 0x00, 0x04, 0x01, 0x00, 0x01, 0x01, 0x04, 0x00, 0x00, 0x01};
@@ -420,6 +500,7 @@ int main(void) {
   closed_step_by_step();
   replayed_in_order();
   unpacked_and_written();
+  edition_two();
   long_books();
   return differences == 0 ? 0 : 1;
 }

@@ -7,7 +7,7 @@ mod sagalib;
 
 use sagalib::{
     left, listing, next, opening, read, refused, replay, unpack, write, Answer, Event, Step, Way,
-    BOOK_BYTES, LISTING_BYTES, TRANSACTIONS,
+    BOOK_BYTES, LISTING_BYTES, MOST_1, MOST_2, TRANSACTIONS,
 };
 
 const ON: Way = Way::READ_ON;
@@ -23,7 +23,8 @@ const TO_FIRST_WITH_CIRCLES: Way = Way {
 const WAYS: [Way; 4] = [ON, TO_FIRST, ON_WITH_CIRCLES, TO_FIRST_WITH_CIRCLES];
 
 const BYTE: u8 = 0xA5;
-const FIELD: u16 = 0xA5C3;
+const FIELD: u32 = 0xA5C3_A5C3;
+const TRANSACTION: u16 = 0xA5C3;
 const NUMBER: u64 = 0xA5C3_A5C3_A5C3_A5C3;
 
 /// The listing's book.
@@ -87,7 +88,7 @@ fn is_not_unpacked(book: &[u8], refused: Answer) {
 }
 
 /// Fields are not written, and the room is left as it was.
-fn is_not_written(fields: &[u16], refused: Answer) {
+fn is_not_written(fields: &[u32], refused: Answer) {
     let mut room = vec![BYTE; 3 * fields.len() + 8];
     assert_eq!(write(fields, &mut room), refused);
     assert!(room.iter().all(|b| *b == BYTE));
@@ -171,7 +172,7 @@ fn after_the_listing() {
     );
     assert_eq!(next(&p6, ON, 0), step(Event::Begin(3), 2));
     is_not_unpacked(&p6, answer(13, 7, 24, 0));
-    let fields: Vec<u16> = p6.iter().map(|b| u16::from(*b)).collect();
+    let fields: Vec<u32> = p6.iter().map(|b| u32::from(*b)).collect();
     is_not_written(&fields, answer(13, 7, 24, 0));
 }
 
@@ -316,21 +317,21 @@ const REPLAYED: [u8; 30] = [
 fn has_order(book: &[u8], events: u64, order: &[u16]) {
     let n = order.len();
     for room in [TRANSACTIONS, n] {
-        let mut list = [FIELD; TRANSACTIONS];
+        let mut list = [TRANSACTION; TRANSACTIONS];
         assert_eq!(
             replay(book, ON, &mut list[..room]),
             answer(0, events, 0, n as u64)
         );
         assert_eq!(&list[..n], order);
-        assert!(list[n..].iter().all(|f| *f == FIELD));
+        assert!(list[n..].iter().all(|t| *t == TRANSACTION));
     }
     for room in 0..n {
-        let mut list = [FIELD; TRANSACTIONS];
+        let mut list = [TRANSACTION; TRANSACTIONS];
         assert_eq!(
             replay(book, ON, &mut list[..room]),
             answer(19, events, 0, 0)
         );
-        assert_eq!(list, [FIELD; TRANSACTIONS]);
+        assert_eq!(list, [TRANSACTION; TRANSACTIONS]);
     }
 }
 
@@ -349,6 +350,48 @@ fn places_in_fields() {
     let bytes = [0x01, 0x00, 0x01, 0x01, 0x00, 0x05, 0xAC, 0x02];
     assert_eq!(read(&bytes, ON), answer(2, 0, 8, 0));
     assert_eq!(opening(&bytes), &bytes[..5]);
+}
+
+/// The listing's book in edition 2, with the largest record beside its operation.
+fn edition_two() {
+    let book = [&[0x02], &LISTED[1..16], &[0xFF, 0xFF, 0x7F], &LISTED[16..]].concat();
+    assert_eq!(read(&book, ON), answer(0, 7, 0, 0));
+    let lines = LATER_LINES.replace("4 active\nsaga", "4 active 2097151\nsaga");
+    for way in WAYS {
+        has_listing(&book, way, &["book accepted 7\n", &lines].concat(), 7);
+    }
+    goes_and_comes_back(&book, 7);
+    // without its record the operation is torn
+    assert_eq!(read(&book[..16], ON), answer(2, 3, 16, 0));
+
+    let mut fields = vec![0; 25];
+    assert_eq!(unpack(&book, &mut fields), answer(0, 7, 0, 25));
+    assert_eq!(fields[16], MOST_2);
+    // above the ceiling, by one and by much
+    for large in [MOST_2 + 1, u32::MAX] {
+        fields[16] = large;
+        is_not_written(&fields, answer(3, 3, 16, 0));
+    }
+    // in edition 1 no record stands there, and the next event has no such code
+    fields[0] = 1;
+    fields[16] = MOST_1;
+    is_not_written(&fields, answer(7, 4, 16, 0));
+    fields[16] = MOST_1 + 1;
+    is_not_written(&fields, answer(3, 4, 16, 0));
+    // the edition itself is always under the first ceiling
+    for (edition, refusal) in [(0, 4), (3, 4), (MOST_1, 4), (70_000, 3), (u32::MAX, 3)] {
+        fields[0] = edition;
+        is_not_written(&fields, answer(refusal, 0, 0, 0));
+    }
+    // a table count between the two
+    fields[1] = MOST_1 + 1;
+    for (edition, refusal) in [(1, 3), (2, 5)] {
+        fields[0] = edition;
+        is_not_written(&fields, answer(refusal, 0, 1, 0));
+    }
+    // as many fields as three bytes each leave room for, and one more
+    is_not_written(&vec![u32::MAX; 21_845], answer(3, 0, 0, 0));
+    is_not_written(&vec![u32::MAX; 21_846], answer(1, 0, 0, 0));
 }
 
 /// A book of 65,536 bytes: two plain transactions hand one operation to and fro. With one byte more it is too long.
@@ -388,6 +431,7 @@ fn all() {
     closed_step_by_step();
     replayed_in_order();
     places_in_fields();
+    edition_two();
     long_books();
     many_refused();
 }

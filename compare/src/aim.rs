@@ -4,7 +4,7 @@ use crate::draft::{Event, Tables};
 use crate::model::{Circumstance, Model};
 use crate::random::Random;
 use crate::story::{full_story, wild_event, Story};
-use crate::tables::{plain_numbers, tables_for};
+use crate::tables::{office_records, plain_numbers, tables_for};
 use crate::undoing::story_around_an_undo;
 
 /// How many stories are tried until an aim is given up.
@@ -55,15 +55,16 @@ pub fn story_of_sagas(random: &mut Random) -> Story {
 
 /// A story of one saga of many steps that goes far, and often some way back.
 pub fn story_of_a_long_saga(random: &mut Random) -> Story {
-    let steps = random.within(6..=16) as u16;
+    let steps = random.within(6..=16) as u32;
     let mut story = Story::new(Tables {
+        records: office_records(random),
         steps: vec![steps],
-        plain: random.below(4) as u16,
-        objects: random.below(4) as u16,
+        plain: random.below(4) as u32,
+        objects: random.below(4) as u32,
         dependencies: Vec::new(),
     });
     story.go_on_with(Event::Begin(0));
-    let done = random.within(1..=steps.into()) as u16;
+    let done = random.within(1..=steps as usize) as u32;
     for step in 1..=done {
         story.go_on_with(Event::Begin(step));
         story.go_on_with(Event::Commit(step));
@@ -78,7 +79,7 @@ pub fn story_of_a_long_saga(random: &mut Random) -> Story {
     if random.one_in(2) {
         story.go_on_with(Event::Abort(done + 1));
     }
-    let undone = random.below(usize::from(done) + 1) as u16;
+    let undone = random.below(done as usize + 1) as u32;
     for step in (done - undone + 1..=done).rev() {
         story.go_on_with(Event::Begin(steps + step));
         story.go_on_with(Event::Commit(steps + step));
@@ -100,11 +101,11 @@ fn story_with_active_undo(random: &mut Random) -> Option<Story> {
     }
     for undo in story.model.active_undos() {
         // It works on something, so that others wait for it.
-        let object = random.below(story.model.objects.into()) as u16;
+        let object = random.below(story.model.objects as usize) as u32;
         story.go_on_with(Event::Operation(
-            undo as u16,
+            undo as u32,
             object,
-            random.below(2) as u16,
+            random.below(2) as u32,
         ));
     }
     let full = !random.one_in(8) || story.fill_up(random);
@@ -155,8 +156,8 @@ fn story_with_kept_read(random: &mut Random) -> Option<Story> {
     let mut story = story_with_plain_ones_begun(random, 15);
     let active = story.model.active_plain();
     let (reader, other) = two_of(random, &active)?;
-    let object = random.below(story.model.objects.into()) as u16;
-    let write = story.model.operations.len() as u16;
+    let object = random.below(story.model.objects as usize) as u32;
+    let write = story.model.operations.len() as u32;
     story.go_on_with(Event::Operation(reader, object, 1));
     story.go_on_with(Event::Operation(reader, object, 0));
     story.go_on_with(Event::CommitOperation(reader, write + 1));
@@ -176,13 +177,13 @@ fn story_with_kept_read(random: &mut Random) -> Option<Story> {
 }
 
 /// Two different ones of these; none if there are fewer.
-fn two_of(random: &mut Random, from: &[usize]) -> Option<(u16, u16)> {
+fn two_of(random: &mut Random, from: &[usize]) -> Option<(u32, u32)> {
     if from.len() < 2 {
         return None;
     }
     let first = random.below(from.len());
     let second = (first + random.within(1..=from.len() - 1)) % from.len();
-    Some((from[first] as u16, from[second] as u16))
+    Some((from[first] as u32, from[second] as u32))
 }
 
 /// A story in which several transactions are tied one after another and the
@@ -209,11 +210,11 @@ fn story_with_ring(random: &mut Random) -> Option<Story> {
             let last_operation = story.model.operations.len().checked_sub(1)?;
             for t in between {
                 if random.one_in(3) {
-                    story.keep_and_give_up(*t as u16);
+                    story.keep_and_give_up(*t as u32);
                 }
-                story.go_on_with(Event::Commit(*t as u16));
+                story.go_on_with(Event::Commit(*t as u32));
             }
-            let handed = Event::Delegate(last as u16, first as u16, last_operation as u16);
+            let handed = Event::Delegate(last as u32, first as u32, last_operation as u32);
             story.go_on_with(handed);
         }
         _ => tie(
@@ -229,10 +230,10 @@ fn story_with_ring(random: &mut Random) -> Option<Story> {
 
 /// Ties one transaction before another on the object, and now and then keeps
 /// one of the two operations alone.
-fn tie(random: &mut Random, story: &mut Story, earlier: usize, later: usize, object: u16) {
-    let (earlier, later) = (earlier as u16, later as u16);
-    let mark = random.below(2) as u16;
-    let first = story.model.operations.len() as u16;
+fn tie(random: &mut Random, story: &mut Story, earlier: usize, later: usize, object: u32) {
+    let (earlier, later) = (earlier as u32, later as u32);
+    let mark = random.below(2) as u32;
+    let first = story.model.operations.len() as u32;
     story.go_on_with(Event::Operation(earlier, object, mark));
     story.go_on_with(Event::Operation(later, object, 1));
     match random.below(6) {
@@ -272,7 +273,7 @@ fn chance_on_the_way(random: &mut Random, story: &Story, number: u8) -> Option<C
     let mut model = Model::new(&story.draft.tables);
     for (place, event) in story.draft.events.iter().enumerate() {
         model.take(*event);
-        for t in 0..model.transactions() as u16 {
+        for t in 0..model.transactions() as u32 {
             for wrong in [Event::Begin(t), Event::Commit(t), Event::Abort(t)] {
                 chances.consider(&model, number, (place + 1, wrong));
             }
@@ -293,15 +294,15 @@ fn chance_to_bar_an_undo(random: &mut Random, story: &Story) -> Option<Chance> {
     for t in model.active_operating() {
         for object in 0..model.objects {
             for mark in [0, 1] {
-                consider(Event::Operation(t as u16, object, mark));
+                consider(Event::Operation(t as u32, object, mark));
             }
         }
     }
     for _ in 0..60 {
         let operation = random.below(model.operations.len());
-        let giver = model.operations[operation].responsible as u16;
-        let receiver = random.pick(&model.active_delegating()) as u16;
-        consider(Event::Delegate(giver, receiver, operation as u16));
+        let giver = model.operations[operation].responsible as u32;
+        let receiver = random.pick(&model.active_delegating()) as u32;
+        consider(Event::Delegate(giver, receiver, operation as u32));
     }
     chances.pick(random)
 }
@@ -314,7 +315,7 @@ fn wrongly_kept(random: &mut Random, model: &Model) -> Option<Event> {
     }
     let operation = random.pick(&own);
     let t = model.operations[operation].responsible;
-    Some(Event::CommitOperation(t as u16, operation as u16))
+    Some(Event::CommitOperation(t as u32, operation as u32))
 }
 
 /// Chances, parted by the way in which the number comes about.

@@ -12,7 +12,7 @@ use std::fmt::Write;
 #[derive(Clone, Debug, PartialEq, Eq)]
 pub enum Case {
     Book(Vec<u8>, usize),
-    Fields(Vec<u16>, usize),
+    Fields(Vec<u32>, usize),
     CirclesBook(Vec<u8>),
     Moves(Vec<u8>, Vec<u8>),
     Replay(Vec<u8>, usize),
@@ -106,7 +106,7 @@ fn put_fields(text: &mut String, book: &[u8], room: usize) {
     }
 }
 
-fn write_answer(fields: &[u16], room: usize) -> Vec<u8> {
+fn write_answer(fields: &[u32], room: usize) -> Vec<u8> {
     let mut bytes = vec![0; room];
     match second::write(fields, &mut bytes) {
         Ok(count) => {

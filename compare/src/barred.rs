@@ -29,15 +29,15 @@ impl Barred {
         }
         match event {
             Event::Operation(t, object, _) => {
-                let by_an_undo = model.is_undo(t.into());
+                let by_an_undo = model.is_undo(t as usize);
                 self.by_an_undo += u64::from(by_an_undo);
                 self.by_others += u64::from(!by_an_undo);
                 self.one_too_many += u64::from(model.is_full());
-                self.by_one_far_off += u64::from(model.is_far_from_undos(t.into(), object));
+                self.by_one_far_off += u64::from(model.is_far_from_undos(t as usize, object));
             }
             Event::Delegate(_, receiver, operation) => {
-                let object = model.operations[usize::from(operation)].object;
-                let far_off = model.is_far_from_undos(receiver.into(), object);
+                let object = model.operations[operation as usize].object;
+                let far_off = model.is_far_from_undos(receiver as usize, object);
                 self.handed_on += 1;
                 self.handed_to_one_far_off += u64::from(far_off);
             }

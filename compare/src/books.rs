@@ -3,12 +3,13 @@
 use crate::aim;
 use crate::carried;
 use crate::damage;
-use crate::draft::encode_field;
+use crate::draft::{encode_field, CEILING_1, CEILING_2};
 use crate::noise;
 use crate::ordered;
 use crate::random::Random;
 use crate::story::{self, Story};
 use crate::stuck;
+use crate::tables::office_records;
 
 /// A book and the kind of book it was meant to be.
 #[derive(Clone, Debug, PartialEq, Eq)]
@@ -20,7 +21,7 @@ pub struct Made {
 type Maker = fn(&mut Random) -> Made;
 
 /// How often each kind is made, out of the sum of all.
-const MAKERS: [(usize, Maker); 22] = [
+const MAKERS: [(usize, Maker); 23] = [
     (170, deep),
     (20, full),
     (110, strayed),
@@ -31,7 +32,8 @@ const MAKERS: [(usize, Maker); 22] = [
     (45, damage::bad_count),
     (35, damage::too_many_transactions),
     (80, damage::bad_dependency),
-    (15, damage::bad_edition),
+    (30, damage::bad_edition),
+    (25, damage::large_value),
     (20, damage::bad_event_code),
     (25, damage::flipped),
     (25, damage::deleted),
@@ -130,16 +132,16 @@ fn aimed(random: &mut Random) -> Made {
 }
 
 /// Tables without anything in them, and no event.
-fn shortest(_: &mut Random) -> Made {
+fn shortest(random: &mut Random) -> Made {
     Made {
-        bytes: vec![1, 0, 0, 0, 0],
+        bytes: vec![random.pick(&[1, 2]), 0, 0, 0, 0],
         kind: "shortest",
     }
 }
 
 /// The list of fields with the index among those of the seed, to try writing
 /// with.
-pub fn field_list(seed: u64, index: u64) -> Vec<u16> {
+pub fn field_list(seed: u64, index: u64) -> Vec<u32> {
     // Lists are drawn apart from the books of the same seed.
     let mut random = Random::new(!seed, index);
     // Lists are asked for every fourth index only.
@@ -147,21 +149,41 @@ pub fn field_list(seed: u64, index: u64) -> Vec<u16> {
         return long_list(&mut random);
     }
     let mut fields = good_fields(&mut random);
-    match random.below(10) {
+    match random.below(11) {
         0..=3 => {}
         4 | 5 => change_field(&mut random, &mut fields),
         6 => fields.truncate(random.below(fields.len())),
         7 => append_fields(&mut random, &mut fields),
         8 => fields = noise_fields(&mut random),
+        9 if random.one_in(3) => fields[0] = random.pick(&[0, 2, 3, 65_535, 65_536, 70_000]),
         _ => {
             let place = random.below(fields.len());
-            fields[place] = random.pick(&[128, 255, 256, 16_383, 16_384, 65_534, u16::MAX]);
+            fields[place] = random.pick(&ENDS);
         }
     }
     fields
 }
 
-fn good_fields(random: &mut Random) -> Vec<u16> {
+/// Numbers at the ends of what one, two and three groups hold, of what each
+/// edition takes, and of what can be asked for at all.
+const ENDS: [u32; 14] = [
+    127,
+    128,
+    255,
+    256,
+    16_383,
+    16_384,
+    65_534,
+    CEILING_1,
+    65_536,
+    70_000,
+    CEILING_2,
+    2_097_152,
+    2_097_153,
+    u32::MAX,
+];
+
+fn good_fields(random: &mut Random) -> Vec<u32> {
     let story = match random.below(12) {
         0 => story::full_story(random, 20),
         1..=4 => {
@@ -178,46 +200,62 @@ fn good_fields(random: &mut Random) -> Vec<u16> {
     }
 }
 
-fn change_field(random: &mut Random, fields: &mut [u16]) {
+fn change_field(random: &mut Random, fields: &mut [u32]) {
     let place = random.below(fields.len());
     fields[place] = match random.below(4) {
         0 => fields[place].wrapping_add(1),
         1 => fields[place].wrapping_sub(1),
-        2 => random.below(8) as u16,
+        2 => random.below(8) as u32,
         _ => random.field(),
     };
 }
 
-fn append_fields(random: &mut Random, fields: &mut Vec<u16>) {
+fn append_fields(random: &mut Random, fields: &mut Vec<u32>) {
     for _ in 0..random.within(1..=6) {
-        fields.push(random.below(9) as u16);
+        fields.push(random.below(9) as u32);
     }
 }
 
-fn noise_fields(random: &mut Random) -> Vec<u16> {
-    let limit = random.pick(&[8, 70, 65_536]);
+fn noise_fields(random: &mut Random) -> Vec<u32> {
+    let limit = random.pick(&[8, 70, 65_536, 2_200_000]);
     let length = random.within(0..=120);
-    let mut fields: Vec<u16> = (0..length).map(|_| random.below(limit) as u16).collect();
+    let mut fields: Vec<u32> = (0..length).map(|_| random.below(limit) as u32).collect();
     if random.one_in(2) {
-        fields.insert(0, 1);
+        fields.insert(0, random.pick(&[1, 2]));
     }
     fields
 }
 
-/// A list whose bytes come to 65,536, or to more.
-fn long_list(random: &mut Random) -> Vec<u16> {
-    let length = random.pick(&[65_536, 65_537, 65_538, 70_000]);
-    if random.one_in(2) {
-        return noise::fields_handed_to_and_fro(length);
+/// A list whose bytes come to about 65,536, or to more; now and then the last
+/// field is above the ceiling, and counts three bytes all the same.
+fn long_list(random: &mut Random) -> Vec<u32> {
+    let length = random.pick(&[65_535, 65_536, 65_536, 65_537, 65_538, 70_000]);
+    match random.below(3) {
+        0 => noise::fields_handed_to_and_fro(length, office_records(random)),
+        1 => {
+            let operation = [4, 0, 0, 0, random.pick(&[CEILING_2, 2_097_152, u32::MAX])];
+            let bytes: usize = operation.map(counted_bytes).iter().sum();
+            let records = Some(vec![random.pick(&ENDS) & CEILING_2]);
+            let mut fields = noise::fields_handed_to_and_fro(length - bytes, records);
+            fields.extend(operation);
+            fields
+        }
+        _ => {
+            let mut fields = vec![random.pick(&[1, 2])];
+            let mut bytes = 1;
+            while bytes < length {
+                let field = random.field();
+                bytes += counted_bytes(field);
+                fields.push(field);
+            }
+            fields
+        }
     }
-    let mut fields = vec![1];
-    let mut bytes = 1;
-    while bytes < length {
-        let field = random.field();
-        bytes += encode_field(field).len();
-        fields.push(field);
-    }
-    fields
+}
+
+/// How many bytes a field counts when the length of a book is judged.
+fn counted_bytes(field: u32) -> usize {
+    encode_field(field).len().min(3)
 }
 
 #[cfg(test)]
@@ -300,7 +338,7 @@ mod tests {
         }
         let of_long_ones = |kind: &str| kind.starts_with("too long") || kind.starts_with("longest");
         let known = kinds.keys().filter(|kind| !of_long_ones(kind)).count();
-        assert_eq!(known, 81);
+        assert_eq!(known, 83);
     }
 
     #[test]
@@ -320,17 +358,27 @@ mod tests {
             let number = written.map_or_else(|refused| refused.number, |_| 0);
             numbers[usize::from(number)] += 1;
         }
-        // Writing knows no 3, and the room is never too small here.
-        for number in (0..=22).filter(|number| ![3, 19].contains(number)) {
+        // The room is never too small here.
+        for number in (0..=22).filter(|number| *number != 19) {
             assert!(numbers[number] > 0, "{number}");
         }
+    }
+
+    /// The bytes of the fields. One that is above every ceiling is three groups
+    /// that go on, which no edition takes either.
+    fn as_counted(fields: &[u32]) -> Vec<u8> {
+        let bytes = |field: &u32| match field {
+            ..=CEILING_2 => encode_field(*field),
+            _ => vec![0xFF; 3],
+        };
+        fields.iter().flat_map(bytes).collect()
     }
 
     #[test]
     fn writing_answers_as_reading_does() {
         for index in 0..BOOKS {
             let fields = field_list(6, index);
-            let bytes = encode(&fields);
+            let bytes = as_counted(&fields);
             let reading = second::read_to_first_refusal(&bytes);
             let mut room = vec![0; 65_536];
             match second::write(&fields, &mut room) {

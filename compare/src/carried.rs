@@ -35,7 +35,7 @@ pub fn carried(random: &mut Random) -> Made {
     if !random.one_in(4) {
         return Made { bytes, kind };
     }
-    bytes.extend(torn_end(random));
+    bytes.extend(torn_end(random, &story.draft.tables));
     Made {
         bytes,
         kind: torn_kind,
@@ -43,8 +43,9 @@ pub fn carried(random: &mut Random) -> Made {
 }
 
 /// What reading does stop at: half an event, an unknown code, a bad number.
-fn torn_end(random: &mut Random) -> Vec<u8> {
+fn torn_end(random: &mut Random, tables: &Tables) -> Vec<u8> {
     let few = random.below(8) as u8;
+    let too_high = (tables.ceiling() >> 14) as u8 + 1;
     match random.below(7) {
         0 => vec![random.within(1..=7) as u8],
         1 => vec![random.within(4..=7) as u8, few],
@@ -52,7 +53,7 @@ fn torn_end(random: &mut Random) -> Vec<u8> {
         3 => vec![random.pick(&[0, 8, 9, 127])],
         4 => vec![random.pick(&[0, 8, 9, 11]), few, few, few],
         5 => vec![random.within(1..=7) as u8, 0x80, 0x00, 1, 0],
-        _ => vec![2, 0x80, 0x80, random.pick(&[0, 4, 0x80]), 1, 0],
+        _ => vec![2, 0x80, 0x80, random.pick(&[0, too_high, 0x80]), 1, 0],
     }
 }
 
@@ -101,7 +102,7 @@ pub fn disturbed(random: &mut Random, good: Draft) -> Vec<u8> {
     story.stray(random);
     let mut bytes = story.draft.bytes();
     if random.one_in(4) {
-        bytes.extend(torn_end(random));
+        bytes.extend(torn_end(random, &story.draft.tables));
     }
     bytes
 }
@@ -126,8 +127,8 @@ fn long_run(random: &mut Random) -> Story {
         story.add(refused);
     }
     for t in story.model.active_delegating() {
-        if !refused.fields().contains(&(t as u16)) && random.one_in(2) {
-            story.add(Event::Abort(t as u16));
+        if !refused.fields().contains(&(t as u32)) && random.one_in(2) {
+            story.add(Event::Abort(t as u32));
         }
     }
     story.add(refused);
@@ -182,7 +183,7 @@ pub fn longest(random: &mut Random) -> Made {
     let mut fields = tables.fields();
     let fields_of = |events: Vec<Event>| events.into_iter().flat_map(Event::fields);
     fields.extend(fields_of(before));
-    let end: Vec<u16> = fields_of(behind).chain(refused.fields()).collect();
+    let end: Vec<u32> = fields_of(behind).chain(refused.fields()).collect();
     while fields.len() + end.len() + 2 <= MOST_BYTES {
         fields.extend(refused.fields());
     }

@@ -282,7 +282,7 @@ mod tests {
         for line in [
             "o 01",
             "b 1G",
-            "w 65536",
+            "w 4294967296",
             "b 01 /x",
             "b xx 01",
             "c 1G",
@@ -308,7 +308,7 @@ mod tests {
     fn the_question_has_every_length() {
         let cases = [
             Case::Book(vec![9], 2),
-            Case::Fields(vec![258], 65_536),
+            Case::Fields(vec![258, 0x0403_0201], 65_536),
             Case::CirclesBook(vec![7, 8]),
             Case::Moves(vec![4; 300], vec![5, 6]),
             Case::Replay(vec![3], 260),
@@ -318,7 +318,7 @@ mod tests {
         let asked = [
             &[7, 0, 0][..],
             &[b'b', 2, 0, 0, 1, 0, 0, 9],
-            &[b'w', 0, 0, 1, 2, 0, 0, 2, 1],
+            &[b'w', 0, 0, 1, 8, 0, 0, 2, 1, 0, 0, 1, 2, 3, 4],
             &[b'c', 0, 0, 0, 2, 0, 0, 7, 8],
             &[b'm', 44, 1, 0, 46, 1, 0],
             &[4; 300],

@@ -2,6 +2,7 @@
 
 use crate::barred::Barred;
 use crate::books::Made;
+use crate::editions::Editions;
 use crate::orders::Orders;
 use crate::passed::Passed;
 use crate::replay::replay;
@@ -29,6 +30,7 @@ pub struct Counts {
     barred: Barred,
     orders: Orders,
     passed: Passed,
+    editions: Editions,
 }
 
 /// The refusals that reading can come to.
@@ -53,6 +55,7 @@ impl Counts {
             self.orders.count(&model);
         }
         self.passed.count(&reading);
+        self.editions.count(&reading);
         if reading.number == second::refusal::NEVER_MOVES {
             let circles = second::read_circles_permitted_to_first_refusal(&made.bytes);
             *self.circles_numbers.entry(circles.number).or_default() += 1;
@@ -88,7 +91,7 @@ impl fmt::Display for Counts {
             }
         }
         write!(output, "{}{}{}", self.singles, self.barred, self.orders)?;
-        write!(output, "{}", self.passed)
+        write!(output, "{}{}", self.passed, self.editions)
     }
 }
 
@@ -118,6 +121,9 @@ mod tests {
             }
             for (count, name) in counts.passed.counted() {
                 assert!(count >= 20, "{count} {name}");
+            }
+            for (count, name) in counts.editions.counted() {
+                assert!(count >= 100, "{count} {name}");
             }
             for number in (8..=18).chain([20, 22]) {
                 assert!(counts.passed.by_number(number) >= 15, "{number}");

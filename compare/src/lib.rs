@@ -10,6 +10,7 @@ pub mod cases;
 pub mod counts;
 mod damage;
 mod draft;
+mod editions;
 mod model;
 mod noise;
 mod ordered;

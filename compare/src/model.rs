@@ -38,7 +38,7 @@ pub enum Circumstance {
     /// A transaction or an operation in this phase.
     In(Phase),
     /// The phase of the base and the kind of a dependency that bars.
-    Entry(Phase, u16),
+    Entry(Phase, u32),
     /// The phase of a read, and of a write before it that isn't settled, and
     /// whether both belong to one transaction.
     Dirty(Phase, Phase, bool),
@@ -58,7 +58,7 @@ pub enum Circumstance {
     /// The sort of one that an undo has to wait for.
     WaitsFor(&'static str),
     /// The code of an event, and for each field behind it whether it is known.
-    Unknown(u16, [bool; 3]),
+    Unknown(u32, [bool; 3]),
 }
 
 /// At most this many operations are accepted in a book.
@@ -66,7 +66,7 @@ const MOST_OPERATIONS: usize = 256;
 
 #[derive(Clone, Debug)]
 pub struct Operation {
-    pub object: u16,
+    pub object: u32,
     writes: bool,
     phase: Phase,
     pub responsible: usize,
@@ -77,17 +77,20 @@ pub struct Operation {
 
 #[derive(Clone, Debug)]
 pub struct Model {
+    /// The highest value that a field of an event may have. Nothing is judged by
+    /// it; who makes events has to keep to it.
+    pub ceiling: u32,
     sorts: Vec<Sort>,
     phases: Vec<Phase>,
-    pub objects: u16,
-    dependencies: Vec<[u16; 3]>,
+    pub objects: u32,
+    dependencies: Vec<[u32; 3]>,
     pub operations: Vec<Operation>,
 }
 
 impl Model {
     pub fn new(tables: &Tables) -> Model {
         let mut sorts = Vec::new();
-        for steps in tables.steps.iter().map(|steps| usize::from(*steps)) {
+        for steps in tables.steps.iter().map(|steps| *steps as usize) {
             let saga = sorts.len();
             sorts.push(Sort::Saga { steps });
             sorts.extend((1..=steps).map(|i| Sort::Step { saga, i }));
@@ -95,6 +98,7 @@ impl Model {
         }
         sorts.extend((0..tables.plain).map(|_| Sort::Plain));
         Model {
+            ceiling: tables.ceiling(),
             phases: vec![Phase::Idle; sorts.len()],
             sorts,
             objects: tables.objects,
@@ -170,20 +174,20 @@ impl Model {
             return 8;
         }
         match event {
-            Event::Begin(t) => self.verdict_on_begin(t.into()),
-            Event::Commit(t) => self.verdict_on_commit(t.into()),
-            Event::Abort(t) => self.verdict_on_abort(t.into()),
+            Event::Begin(t) => self.verdict_on_begin(t as usize),
+            Event::Commit(t) => self.verdict_on_commit(t as usize),
+            Event::Abort(t) => self.verdict_on_abort(t as usize),
             Event::Operation(t, object, mark) => {
-                self.verdict_on_operation(t.into(), object, mark == 1)
+                self.verdict_on_operation(t as usize, object, mark == 1)
             }
             Event::Delegate(giver, receiver, operation) => {
-                self.verdict_on_delegation(giver.into(), receiver.into(), operation.into())
+                self.verdict_on_delegation(giver as usize, receiver as usize, operation as usize)
             }
             Event::CommitOperation(t, operation) => {
-                self.verdict_on_single_commit(t.into(), operation.into())
+                self.verdict_on_single_commit(t as usize, operation as usize)
             }
             Event::AbortOperation(t, operation) => {
-                self.verdict_on_single_end(t.into(), operation.into())
+                self.verdict_on_single_end(t as usize, operation as usize)
             }
         }
     }
@@ -194,8 +198,8 @@ impl Model {
 
     /// For each field behind the code, whether what it names is there.
     fn known_fields(&self, event: Event) -> [bool; 3] {
-        let transaction = |t: u16| usize::from(t) < self.transactions();
-        let accepted = |operation: u16| usize::from(operation) < self.operations.len();
+        let transaction = |t: u32| (t as usize) < self.transactions();
+        let accepted = |operation: u32| (operation as usize) < self.operations.len();
         match event {
             Event::Begin(t) | Event::Commit(t) | Event::Abort(t) => [transaction(t), true, true],
             Event::Operation(t, object, mark) => [transaction(t), object < self.objects, mark < 2],
@@ -213,7 +217,7 @@ impl Model {
     fn verdict_on_begin(&self, t: usize) -> u8 {
         if self.phases[t] != Phase::Idle {
             10
-        } else if self.broken_saga_rules(Event::Begin(t as u16)) > 0 {
+        } else if self.broken_saga_rules(Event::Begin(t as u32)) > 0 {
             13
         } else if self.entries_of(t).any(bars_begin) {
             14
@@ -225,7 +229,7 @@ impl Model {
     fn verdict_on_commit(&self, t: usize) -> u8 {
         if self.phases[t] != Phase::Active {
             11
-        } else if self.broken_saga_rules(Event::Commit(t as u16)) > 0 {
+        } else if self.broken_saga_rules(Event::Commit(t as u32)) > 0 {
             13
         } else if self.entries_of(t).any(bars_commit) {
             14
@@ -243,7 +247,7 @@ impl Model {
             9
         } else if self.phases[t] != Phase::Active {
             11
-        } else if self.broken_saga_rules(Event::Abort(t as u16)) > 0 {
+        } else if self.broken_saga_rules(Event::Abort(t as u32)) > 0 {
             13
         } else {
             0
@@ -255,7 +259,7 @@ impl Model {
     pub fn broken_saga_rules(&self, event: Event) -> usize {
         let is = |t: usize, phase: Phase| self.phases[t] == phase;
         let conditions = match event {
-            Event::Begin(t) => match (usize::from(t), self.sorts[usize::from(t)]) {
+            Event::Begin(t) => match ((t as usize), self.sorts[t as usize]) {
                 (t, Sort::Step { saga, i }) => vec![
                     is(saga, Phase::Active),
                     i == 1 || is(t - 1, Phase::Committed),
@@ -269,12 +273,12 @@ impl Model {
                 ],
                 _ => Vec::new(),
             },
-            Event::Commit(t) => match (usize::from(t), self.sorts[usize::from(t)]) {
+            Event::Commit(t) => match ((t as usize), self.sorts[t as usize]) {
                 (t, Sort::Saga { steps }) => vec![is(t + steps, Phase::Committed)],
                 (_, Sort::Step { saga, .. }) => vec![is(saga, Phase::Active)],
                 _ => Vec::new(),
             },
-            Event::Abort(t) => match (usize::from(t), self.sorts[usize::from(t)]) {
+            Event::Abort(t) => match ((t as usize), self.sorts[t as usize]) {
                 (t, Sort::Saga { steps }) => vec![!is(t + steps, Phase::Committed)],
                 _ => Vec::new(),
             },
@@ -283,7 +287,7 @@ impl Model {
         conditions.iter().filter(|holds| !**holds).count()
     }
 
-    fn verdict_on_operation(&self, t: usize, object: u16, writes: bool) -> u8 {
+    fn verdict_on_operation(&self, t: usize, object: u32, writes: bool) -> u8 {
         if let Sort::Saga { .. } = self.sorts[t] {
             return 9;
         }
@@ -292,7 +296,7 @@ impl Model {
         }
         if self.must_wait_for(t, object, writes).is_some() {
             17
-        } else if self.bars_an_undo(Event::Operation(t as u16, object, writes.into())) {
+        } else if self.bars_an_undo(Event::Operation(t as u32, object, writes.into())) {
             22
         } else if self.is_full() {
             18
@@ -302,7 +306,7 @@ impl Model {
     }
 
     /// One that has to end before an undo may work on the object.
-    fn must_wait_for(&self, t: usize, object: u16, writes: bool) -> Option<usize> {
+    fn must_wait_for(&self, t: usize, object: u32, writes: bool) -> Option<usize> {
         let conflicting = self.conflicts(object, writes).map(|p| &self.operations[p]);
         let mut of_others = conflicting.filter(|p| p.phase == Phase::Active && p.responsible != t);
         of_others
@@ -312,7 +316,7 @@ impl Model {
     }
 
     fn verdict_on_delegation(&self, giver: usize, receiver: usize, operation: usize) -> u8 {
-        let handed = Event::Delegate(giver as u16, receiver as u16, operation as u16);
+        let handed = Event::Delegate(giver as u32, receiver as u32, operation as u32);
         if giver == receiver || !self.delegates(giver) || !self.delegates(receiver) {
             9
         } else if self.phases[giver] != Phase::Active || self.phases[receiver] != Phase::Active {
@@ -344,7 +348,7 @@ impl Model {
 
     /// Whether a transaction answers for nothing on an object on which an active
     /// undo has worked, and this object is none of these either.
-    pub fn is_far_from_undos(&self, t: usize, object: u16) -> bool {
+    pub fn is_far_from_undos(&self, t: usize, object: u32) -> bool {
         let undos = self.active_undos();
         let all = &self.operations;
         let of_t = all.iter().filter(|operation| operation.responsible == t);
@@ -394,11 +398,11 @@ impl Model {
     }
 
     /// The phase of the base and the kind of each entry of a dependent.
-    fn entries_of(&self, dependent: usize) -> impl Iterator<Item = (Phase, u16)> + '_ {
+    fn entries_of(&self, dependent: usize) -> impl Iterator<Item = (Phase, u32)> + '_ {
         self.dependencies
             .iter()
-            .filter(move |[d, _, _]| usize::from(*d) == dependent)
-            .map(|[_, base, kind]| (self.phases[usize::from(*base)], *kind))
+            .filter(move |[d, _, _]| (*d as usize) == dependent)
+            .map(|[_, base, kind]| (self.phases[*base as usize], *kind))
     }
 
     pub fn operation_phase(&self, operation: usize) -> Phase {
@@ -406,7 +410,7 @@ impl Model {
     }
 
     /// The operations so far that conflict with a new one and aren't aborted.
-    fn conflicts(&self, object: u16, writes: bool) -> impl Iterator<Item = usize> + '_ {
+    fn conflicts(&self, object: u32, writes: bool) -> impl Iterator<Item = usize> + '_ {
         (0..self.operations.len()).filter(move |p| {
             let earlier = &self.operations[*p];
             let conflict = earlier.object == object && (earlier.writes || writes);
@@ -475,13 +479,13 @@ impl Model {
         }
         match event {
             Event::Begin(t) => {
-                let t = usize::from(t);
+                let t = t as usize;
                 let barring = self.entries_of(t).find(|entry| bars_begin(*entry));
                 let entry = barring.map(|(base, kind)| Entry(base, kind));
                 [self.around(t), entry.into_iter().collect()].concat()
             }
             Event::Commit(t) => {
-                let t = usize::from(t);
+                let t = t as usize;
                 let barring = self.entries_of(t).find(|entry| bars_commit(*entry));
                 let entry = barring.map(|(base, kind)| Entry(base, kind));
                 let dirty = self.dirty_reads_of(t).next();
@@ -489,40 +493,40 @@ impl Model {
                 let on_commit = entry.into_iter().chain(dirty).chain(self.rings(t));
                 [self.around(t), on_commit.collect()].concat()
             }
-            Event::Abort(t) => self.around(usize::from(t)),
+            Event::Abort(t) => self.around(t as usize),
             Event::Operation(t, object, mark) => {
-                let waits_for = self.must_wait_for(t.into(), object, mark == 1);
+                let waits_for = self.must_wait_for(t as usize, object, mark == 1);
                 let waits_for = waits_for.map(|other| WaitsFor(self.sorts[other].name()));
                 let looked_at = [
-                    Of(self.sorts[usize::from(t)].name()),
+                    Of(self.sorts[t as usize].name()),
                     Full(self.is_full()),
-                    FarFromUndos(self.is_far_from_undos(t.into(), object)),
+                    FarFromUndos(self.is_far_from_undos(t as usize, object)),
                     Bars(self.bars_an_undo(event)),
                 ];
                 looked_at.into_iter().chain(waits_for).collect()
             }
             Event::Delegate(giver, receiver, operation) => {
-                let Operation { phase, object, .. } = self.operations[usize::from(operation)];
-                let far = FarFromUndos(self.is_far_from_undos(receiver.into(), object));
+                let Operation { phase, object, .. } = self.operations[operation as usize];
+                let far = FarFromUndos(self.is_far_from_undos(receiver as usize, object));
                 let handed = vec![In(phase), far, Bars(self.bars_an_undo(event))];
                 [self.acting(giver), self.acting(receiver), handed].concat()
             }
             Event::CommitOperation(t, operation) => {
-                let (acting, t) = (self.acting(t), usize::from(t));
-                let operation = usize::from(operation);
+                let (acting, t) = (self.acting(t), (t as usize));
+                let operation = operation as usize;
                 let write = self.unsettled_writes_before(t, operation).next();
                 let dirty = write.map(|write| self.dirty(operation, write));
                 let on_commit = dirty.into_iter().chain(self.rings(t));
                 [acting, self.single(operation), on_commit.collect()].concat()
             }
             Event::AbortOperation(t, operation) => {
-                [self.acting(t), self.single(operation.into())].concat()
+                [self.acting(t), self.single(operation as usize)].concat()
             }
         }
     }
 
-    fn acting(&self, t: u16) -> Vec<Circumstance> {
-        let t = usize::from(t);
+    fn acting(&self, t: u32) -> Vec<Circumstance> {
+        let t = t as usize;
         vec![
             Circumstance::Of(self.sorts[t].name()),
             Circumstance::In(self.phases[t]),
@@ -615,9 +619,9 @@ impl Model {
     /// Takes in an event with the verdict 0.
     pub fn take(&mut self, event: Event) {
         match event {
-            Event::Begin(t) => self.phases[usize::from(t)] = Phase::Active,
-            Event::Commit(t) => self.end(t.into(), Phase::Committed),
-            Event::Abort(t) => self.end(t.into(), Phase::Aborted),
+            Event::Begin(t) => self.phases[t as usize] = Phase::Active,
+            Event::Commit(t) => self.end(t as usize, Phase::Committed),
+            Event::Abort(t) => self.end(t as usize, Phase::Aborted),
             Event::Operation(t, object, mark) => {
                 let writes = mark == 1;
                 let tied = self.conflicts(object, writes).collect();
@@ -625,21 +629,21 @@ impl Model {
                     object,
                     writes,
                     phase: Phase::Active,
-                    responsible: t.into(),
+                    responsible: t as usize,
                     tied,
                 });
             }
             Event::Delegate(_, receiver, operation) => {
-                let operation = &mut self.operations[usize::from(operation)];
+                let operation = &mut self.operations[operation as usize];
                 if operation.phase == Phase::Active {
-                    operation.responsible = receiver.into();
+                    operation.responsible = receiver as usize;
                 }
             }
             Event::CommitOperation(_, operation) => {
-                self.operations[usize::from(operation)].phase = Phase::Committed;
+                self.operations[operation as usize].phase = Phase::Committed;
             }
             Event::AbortOperation(_, operation) => {
-                self.operations[usize::from(operation)].phase = Phase::Aborted;
+                self.operations[operation as usize].phase = Phase::Aborted;
             }
         }
     }
@@ -661,14 +665,14 @@ pub fn can_never_move(tables: &Tables) -> bool {
     let mut waits_for = [0; 64];
     for [dependent, base, kind] in &tables.dependencies {
         if (4..=7).contains(kind) {
-            waits_for[usize::from(*dependent)] |= 1 << base;
+            waits_for[*dependent as usize] |= 1 << base;
         }
     }
     (0..64).any(|t| leads_back(&waits_for, t))
 }
 
 /// Whether a dependency of a kind bars a begin, given the phase of its base.
-fn bars_begin((base, kind): (Phase, u16)) -> bool {
+fn bars_begin((base, kind): (Phase, u32)) -> bool {
     match kind {
         4 => base == Phase::Idle,
         5 => base == Phase::Idle || base == Phase::Active,
@@ -679,7 +683,7 @@ fn bars_begin((base, kind): (Phase, u16)) -> bool {
 }
 
 /// Whether a dependency of a kind bars a commit, given the phase of its base.
-fn bars_commit((base, kind): (Phase, u16)) -> bool {
+fn bars_commit((base, kind): (Phase, u32)) -> bool {
     match kind {
         1 => base == Phase::Idle || base == Phase::Active,
         2 => base != Phase::Committed,

@@ -1,10 +1,10 @@
 //! Books that are hardly books: noise, nothing at all, and the longest.
 
 use crate::books::Made;
-use crate::draft::{encode, Tables};
+use crate::draft::{encode, Draft, Event, Tables};
 use crate::random::Random;
 use crate::stuck::never_moving_story;
-use crate::tables::good_tables;
+use crate::tables::{good_tables, office_records};
 
 const MOST_BYTES: usize = 65_536;
 
@@ -24,7 +24,7 @@ pub fn noise(random: &mut Random) -> Made {
     let tail = noise_bytes(random, length);
     let (start, kind) = match random.below(3) {
         0 => (Vec::new(), "noise"),
-        1 => (vec![1], "noise after a good edition"),
+        1 => (vec![random.pick(&[1, 2])], "noise after a good edition"),
         _ => (
             encode(&good_tables(random).fields()),
             "noise after good tables",
@@ -46,10 +46,14 @@ pub fn empty(_: &mut Random) -> Made {
 /// A book of exactly 65,536 bytes.
 pub fn longest(random: &mut Random) -> Made {
     let (bytes, kind) = match random.below(4) {
-        0 => (handed_to_and_fro(MOST_BYTES), "longest, accepted"),
+        0 => {
+            let records = office_records(random);
+            (handed_to_and_fro(MOST_BYTES, records), "longest, accepted")
+        }
         1 => {
             let object_of_two_bytes = [4, 0, 0x80, 0x01];
-            let mut bytes = handed_to_and_fro(MOST_BYTES - object_of_two_bytes.len());
+            let length = MOST_BYTES - object_of_two_bytes.len();
+            let mut bytes = handed_to_and_fro(length, office_records(random));
             bytes.extend(object_of_two_bytes);
             (bytes, "longest, a field missing")
         }
@@ -62,7 +66,11 @@ pub fn longest(random: &mut Random) -> Made {
 pub fn too_long(random: &mut Random) -> Made {
     let length = MOST_BYTES + pick_excess(random);
     let (bytes, kind) = match random.below(2) {
-        0 => (handed_to_and_fro(length), "too long, good to the end"),
+        0 => {
+            let records = office_records(random);
+            let bytes = handed_to_and_fro(length, records);
+            (bytes, "too long, good to the end")
+        }
         _ => long_bytes(random, length, "too long, noise"),
     };
     Made { bytes, kind }
@@ -79,7 +87,8 @@ fn pick_excess(random: &mut Random) -> usize {
 /// and one event over and over.
 fn long_bytes(random: &mut Random, length: usize, kind: &'static str) -> (Vec<u8>, &'static str) {
     let bytes = if random.one_in(2) {
-        [vec![1], noise_bytes(random, length - 1)].concat()
+        let edition = random.pick(&[1, 2]);
+        [vec![edition], noise_bytes(random, length - 1)].concat()
     } else {
         let tables = match random.below(4) {
             0 => never_moving_story(random).0.draft.tables,
@@ -96,23 +105,23 @@ fn long_bytes(random: &mut Random, length: usize, kind: &'static str) -> (Vec<u8
 /// A good book of exactly so many bytes, padded with delegations: two plain
 /// transactions hand operations to and fro. Handing operation 128 takes 5
 /// bytes, operation 0 takes 4, so every length can be met.
-pub fn handed_to_and_fro(length: usize) -> Vec<u8> {
-    encode(&fields_handed_to_and_fro(length))
+pub fn handed_to_and_fro(length: usize, records: Option<Vec<u32>>) -> Vec<u8> {
+    encode(&fields_handed_to_and_fro(length, records))
 }
 
 /// The fields of that book.
-pub fn fields_handed_to_and_fro(length: usize) -> Vec<u16> {
+pub fn fields_handed_to_and_fro(length: usize, records: Option<Vec<u32>>) -> Vec<u32> {
     let tables = Tables {
+        records,
         plain: 2,
         objects: 1,
         ..Tables::default()
     };
-    let mut fields = tables.fields();
-    fields.extend([1, 0, 1, 1]);
-    for _ in 0..129 {
-        fields.extend([4, 0, 0, 0]);
-    }
-    let room = length - fields.len();
+    let begun = [Event::Begin(0), Event::Begin(1)];
+    let reads = [Event::Operation(0, 0, 0)].repeat(129);
+    let events = [&begun[..], &reads].concat();
+    let mut fields = Draft { tables, events }.fields();
+    let room = length - encode(&fields).len();
     let of_five_bytes = room % 4;
     let of_four_bytes = (room - 5 * of_five_bytes) / 4;
     hand_over(&mut fields, 128, of_five_bytes);
@@ -120,9 +129,9 @@ pub fn fields_handed_to_and_fro(length: usize) -> Vec<u16> {
     fields
 }
 
-fn hand_over(fields: &mut Vec<u16>, operation: u16, times: usize) {
+fn hand_over(fields: &mut Vec<u32>, operation: u32, times: usize) {
     for time in 0..times {
-        let giver = (time % 2) as u16;
+        let giver = (time % 2) as u32;
         fields.extend([5, giver, 1 - giver, operation]);
     }
 }

@@ -5,12 +5,12 @@ use crate::draft::{Event, Tables};
 use crate::model::Model;
 use crate::random::Random;
 use crate::story::Story;
-use crate::tables::{plain_numbers, tables_for};
+use crate::tables::{office_records, plain_numbers, tables_for};
 
-const READ: u16 = 0;
-const WRITE: u16 = 1;
+const READ: u32 = 0;
+const WRITE: u32 = 1;
 
-type Laying = fn(&mut Random, &mut Story, &[u16]);
+type Laying = fn(&mut Random, &mut Story, &[u32]);
 
 /// A book in which many have committed something, one after another.
 pub fn ordered(random: &mut Random) -> Made {
@@ -25,7 +25,7 @@ pub fn ordered(random: &mut Random) -> Made {
         story.go_on_with(Event::Begin(t));
     }
     let clerks = story.model.active_plain();
-    let mut clerks: Vec<u16> = clerks.iter().map(|t| *t as u16).collect();
+    let mut clerks: Vec<u32> = clerks.iter().map(|t| *t as u32).collect();
     clerks.reverse();
     if !random.one_in(3) {
         clerks = random.shuffled(clerks);
@@ -48,6 +48,7 @@ fn tables(random: &mut Random) -> Tables {
         return tables_for(random, second::refusal::ON_A_RING);
     }
     Tables {
+        records: office_records(random),
         plain: random.pick(&[2, 3, 4, 5, 6, 7, 8, 10, 12, 16, 24, 64]),
         objects: random.pick(&[1, 2, 3, 3, 4, 6, 8, 12, 32]),
         ..Tables::default()
@@ -56,13 +57,13 @@ fn tables(random: &mut Random) -> Tables {
 
 /// Some clerks work one after another, each on what the next works on too; the
 /// others work on their own. Then all are done, one way or another.
-fn chain(random: &mut Random, story: &mut Story, clerks: &[u16]) {
+fn chain(random: &mut Random, story: &mut Story, clerks: &[u32]) {
     let objects = story.model.objects;
     let length = random.within(0..=clerks.len());
     let (linked, free) = clerks.split_at(length);
     for (place, link) in linked.windows(2).enumerate() {
-        let object = place as u16 % objects;
-        let mark = random.below(2) as u16;
+        let object = place as u32 % objects;
+        let mark = random.below(2) as u32;
         let other_mark = random.pick(&[WRITE, WRITE, 1 - mark]);
         story.go_on_with(Event::Operation(link[0], object, mark));
         if random.one_in(3) {
@@ -71,22 +72,22 @@ fn chain(random: &mut Random, story: &mut Story, clerks: &[u16]) {
         story.go_on_with(Event::Operation(link[1], object, other_mark));
     }
     for (place, t) in free.iter().enumerate() {
-        let object = (length + place) as u16 % objects;
-        story.go_on_with(Event::Operation(*t, object, random.below(2) as u16));
+        let object = (length + place) as u32 % objects;
+        story.go_on_with(Event::Operation(*t, object, random.below(2) as u32));
     }
     end_all(random, story, clerks);
 }
 
 /// Few lists, and everybody works on them, up to all the operations that there
 /// may be.
-fn dense(random: &mut Random, story: &mut Story, clerks: &[u16]) {
-    let objects = random.within(1..=story.model.objects.min(3).into());
+fn dense(random: &mut Random, story: &mut Story, clerks: &[u32]) {
+    let objects = random.within(1..=story.model.objects.min(3) as usize);
     let most = random.pick(&[1, 2, 4, 256 / clerks.len().max(1)]);
     let at_once = random.one_in(2);
     let least = if random.one_in(3) { most } else { 1 };
     for t in clerks {
         for _ in 0..random.within(least..=most) {
-            let object = random.below(objects) as u16;
+            let object = random.below(objects) as u32;
             let mark = random.pick(&[READ, WRITE, WRITE]);
             story.go_on_with(Event::Operation(*t, object, mark));
         }
@@ -99,10 +100,10 @@ fn dense(random: &mut Random, story: &mut Story, clerks: &[u16]) {
 
 /// Many read a list, then one changes it, then many read it again, so that there
 /// is a choice among the readers.
-fn groups(random: &mut Random, story: &mut Story, clerks: &[u16]) {
+fn groups(random: &mut Random, story: &mut Story, clerks: &[u32]) {
     let mut rest = clerks;
     while !rest.is_empty() {
-        let object = random.below(story.model.objects.into()) as u16;
+        let object = random.below(story.model.objects as usize) as u32;
         let (group, others) = rest.split_at(random.within(1..=rest.len().min(6)));
         rest = others;
         for (place, t) in group.iter().enumerate() {
@@ -117,13 +118,13 @@ fn groups(random: &mut Random, story: &mut Story, clerks: &[u16]) {
 }
 
 /// Whatever comes, with many changes kept.
-fn by_chance(random: &mut Random, story: &mut Story, _: &[u16]) {
+fn by_chance(random: &mut Random, story: &mut Story, _: &[u32]) {
     let events = random.within(20..=220);
     story.settle(random, events);
 }
 
 /// All of them are done but for a few, in their order or the other way round.
-fn end_all(random: &mut Random, story: &mut Story, clerks: &[u16]) {
+fn end_all(random: &mut Random, story: &mut Story, clerks: &[u32]) {
     let mut in_turn = clerks.to_vec();
     match random.below(4) {
         0 => in_turn.reverse(),
@@ -139,7 +140,7 @@ fn end_all(random: &mut Random, story: &mut Story, clerks: &[u16]) {
 
 /// A clerk is done: commits; keeps all or some of it alone and stays, or then
 /// gives up; hands what it did to another and commits; or gives up.
-fn end(random: &mut Random, story: &mut Story, t: u16) {
+fn end(random: &mut Random, story: &mut Story, t: u32) {
     match random.below(12) {
         0..=4 => story.go_on_with(Event::Commit(t)),
         5 | 6 => {
@@ -163,14 +164,14 @@ fn end(random: &mut Random, story: &mut Story, t: u16) {
 }
 
 /// The active operations that a clerk answers for.
-fn own(model: &Model, t: u16) -> Vec<u16> {
+fn own(model: &Model, t: u32) -> Vec<u32> {
     let mut own = model.operations_to_end_alone();
-    own.retain(|operation| model.operations[*operation].responsible == usize::from(t));
-    own.iter().map(|operation| *operation as u16).collect()
+    own.retain(|operation| model.operations[*operation].responsible == t as usize);
+    own.iter().map(|operation| *operation as u32).collect()
 }
 
 /// Keeps one in so many of what a clerk did.
-fn keep(random: &mut Random, story: &mut Story, t: u16, one_in: usize) {
+fn keep(random: &mut Random, story: &mut Story, t: u32, one_in: usize) {
     for operation in own(&story.model, t) {
         if random.one_in(one_in) {
             story.go_on_with(Event::CommitOperation(t, operation));
@@ -179,9 +180,9 @@ fn keep(random: &mut Random, story: &mut Story, t: u16, one_in: usize) {
 }
 
 /// Hands some of what a clerk did to another who is at work.
-fn hand_on(random: &mut Random, story: &mut Story, t: u16) {
+fn hand_on(random: &mut Random, story: &mut Story, t: u32) {
     for operation in own(&story.model, t) {
-        let receiver = random.pick(&story.model.active_delegating()) as u16;
+        let receiver = random.pick(&story.model.active_delegating()) as u32;
         if !random.one_in(3) {
             story.go_on_with(Event::Delegate(t, receiver, operation));
         }
@@ -195,7 +196,7 @@ mod tests {
     #[test]
     fn most_are_replayed_in_another_order_than_that_of_the_numbers() {
         let (mut not_rising, mut highest, mut operations) = (0, 0, 0);
-        for index in 0..300 {
+        for index in 0..450 {
             let made = ordered(&mut Random::new(41, index));
             let reading = second::read(&made.bytes);
             assert_eq!(reading.number, 0);
@@ -204,7 +205,7 @@ mod tests {
             highest = highest.max(order.len());
             operations = operations.max(reading.state.operations());
         }
-        assert!(not_rising > 150, "{not_rising}");
+        assert!(not_rising > 225, "{not_rising}");
         assert!(highest > 40, "{highest}");
         assert!(operations > 200, "{operations}");
     }

@@ -60,7 +60,7 @@ fn left_on_its_way(random: &mut Random, whole: &Story) -> Story {
     }
     for (saga, _) in story.model.sagas() {
         if random.one_in(2) {
-            story.go_on_with(Event::Abort(saga as u16));
+            story.go_on_with(Event::Abort(saga as u32));
         }
     }
     let further = random.below(4);
@@ -74,7 +74,7 @@ struct Entry {
     name: Vec<u8>,
 }
 
-fn plan(random: &mut Random, sagas: &[u16]) -> Vec<u8> {
+fn plan(random: &mut Random, sagas: &[u32]) -> Vec<u8> {
     if random.one_in(25) {
         return noise(random);
     }
@@ -98,11 +98,11 @@ fn plan(random: &mut Random, sagas: &[u16]) -> Vec<u8> {
 
 /// A move for each saga, with its steps and some class lists. Now and then
 /// there are more or fewer moves, or steps, than the book has.
-fn fitting(random: &mut Random, sagas: &[u16]) -> Vec<Entry> {
+fn fitting(random: &mut Random, sagas: &[u32]) -> Vec<Entry> {
     let most_lists = if sagas.len() > 8 { 2 } else { 4 };
     let mut entries = Vec::new();
     for index in 0..about(random, sagas.len()) {
-        let steps = sagas.get(index).map_or(2, |steps| usize::from(*steps));
+        let steps = sagas.get(index).map_or(2, |steps| *steps as usize);
         let mut words = vec!["step"; about(random, steps).min(16)];
         words.extend(vec!["list"; random.below(most_lists)]);
         entries.push(named(random, "move"));

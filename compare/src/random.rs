@@ -39,8 +39,9 @@ impl Random {
         self.next() as u8
     }
 
-    pub fn field(&mut self) -> u16 {
-        self.next() as u16
+    /// A number of 32 bits; small ones are as likely as large ones.
+    pub fn field(&mut self) -> u32 {
+        self.next() as u32 >> self.below(32)
     }
 
     pub fn pick<T: Copy>(&mut self, from: &[T]) -> T {

@@ -63,6 +63,38 @@ mod tests {
         assert!(shown > 50 * BOOKS);
     }
 
+    /// The last word of each line of an operation.
+    fn listed_records(listing: &str) -> Vec<&str> {
+        let lines = listing.lines().filter(|line| line.starts_with("op "));
+        lines.filter_map(|line| line.split(' ').nth(6)).collect()
+    }
+
+    #[test]
+    fn operations_of_edition_2_are_listed_with_their_records() {
+        let mut listed = [0; 2];
+        for index in 0..BOOKS {
+            let made = book(19, index);
+            let reading = second::read_circles_permitted(&made.bytes);
+            let mut records = Draft::of_book(&made.bytes)
+                .and_then(|draft| draft.tables.records)
+                .unwrap_or_default()
+                .into_iter();
+            let mut wanted = Vec::new();
+            replay(&made.bytes, &reading, |_, event, number| {
+                let Event::Operation(..) = event else { return };
+                let record = records.next();
+                if number == 0 {
+                    wanted.extend(record.map(|record| record.to_string()));
+                }
+            });
+            let listing = second::listing_circles_permitted(&made.bytes);
+            assert_eq!(listed_records(&listing), wanted, "{index}");
+            listed[0] += usize::from(!wanted.is_empty());
+            listed[1] += wanted.len();
+        }
+        assert!(listed[0] > 400 && listed[1] > 5000, "{listed:?}");
+    }
+
     #[test]
     fn the_model_and_the_second_program_replay_in_the_same_order() {
         let mut named = 0;

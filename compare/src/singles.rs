@@ -35,7 +35,7 @@ impl Singles {
             Event::CommitOperation(..) => self.kept += 1,
             Event::AbortOperation(..) => self.dropped += 1,
             Event::Delegate(_, _, operation)
-                if model.operation_phase(operation.into()) != Phase::Active =>
+                if model.operation_phase(operation as usize) != Phase::Active =>
             {
                 self.handed_on_after_the_end += 1;
             }
@@ -47,7 +47,7 @@ impl Singles {
         match (event, number) {
             (Event::CommitOperation(..), 15) => self.kept_too_early += 1,
             (Event::CommitOperation(..), 16) => self.kept_on_a_ring += 1,
-            (Event::Commit(t), 15) if model.is_barred_by_kept_read(t.into()) => {
+            (Event::Commit(t), 15) if model.is_barred_by_kept_read(t as usize) => {
                 self.barred_by_a_kept_read += 1;
             }
             _ => {}

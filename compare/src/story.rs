@@ -1,6 +1,6 @@
 //! Books that go deep: events that are mostly acceptable, one after another.
 
-use crate::draft::{Draft, Event, Tables};
+use crate::draft::{Draft, Event, Tables, CEILING_1};
 use crate::model::{Model, Phase};
 use crate::random::Random;
 use crate::tables::{good_tables, tables_for};
@@ -174,10 +174,10 @@ impl Story {
     }
 
     /// A plain transaction keeps all it has done and aborts.
-    pub fn keep_and_give_up(&mut self, t: u16) {
+    pub fn keep_and_give_up(&mut self, t: u32) {
         for operation in self.model.operations_to_end_alone() {
-            if self.model.operations[operation].responsible == usize::from(t) {
-                self.go_on_with(Event::CommitOperation(t, operation as u16));
+            if self.model.operations[operation].responsible == t as usize {
+                self.go_on_with(Event::CommitOperation(t, operation as u32));
             }
         }
         self.go_on_with(Event::Abort(t));
@@ -222,16 +222,16 @@ fn draw_event(random: &mut Random, model: &Model, mood: Mood) -> Option<Event> {
         2 => draw(random, &model.in_phase(Phase::Active)).map(Event::Abort),
         3 => {
             let t = draw(random, &operating)?;
-            let objects: Vec<usize> = (0..model.objects.into()).collect();
+            let objects: Vec<usize> = (0..model.objects as usize).collect();
             let object = draw(random, &objects)?;
-            Some(Event::Operation(t, object, random.below(2) as u16))
+            Some(Event::Operation(t, object, random.below(2) as u32))
         }
         4 => {
             let operations: Vec<usize> = (0..model.operations.len()).collect();
             let operation = draw(random, &operations)?;
-            let giver = model.operations[usize::from(operation)].responsible;
+            let giver = model.operations[operation as usize].responsible;
             let receiver = draw(random, &model.active_delegating())?;
-            Some(Event::Delegate(giver as u16, receiver, operation))
+            Some(Event::Delegate(giver as u32, receiver, operation))
         }
         5 => draw_saga_event(random, model),
         6 => draw_own(random, model).map(|(t, own)| Event::CommitOperation(t, own)),
@@ -240,10 +240,10 @@ fn draw_event(random: &mut Random, model: &Model, mood: Mood) -> Option<Event> {
 }
 
 /// An active operation and the plain transaction that answers for it.
-fn draw_own(random: &mut Random, model: &Model) -> Option<(u16, u16)> {
+fn draw_own(random: &mut Random, model: &Model) -> Option<(u32, u32)> {
     let operation = draw(random, &model.operations_to_end_alone())?;
-    let t = model.operations[usize::from(operation)].responsible;
-    Some((t as u16, operation))
+    let t = model.operations[operation as usize].responsible;
+    Some((t as u32, operation))
 }
 
 /// An event that moves some saga on, forth or back; none if it has come to its end.
@@ -254,7 +254,7 @@ fn draw_saga_event(random: &mut Random, model: &Model) -> Option<Event> {
     }
     let (saga, steps) = random.pick(&sagas);
     match model.phase(saga) {
-        Phase::Idle => Some(Event::Begin(saga as u16)),
+        Phase::Idle => Some(Event::Begin(saga as u32)),
         Phase::Active => Some(forth(random, model, saga, steps)),
         Phase::Aborted => back(model, saga, steps),
         Phase::Committed => None,
@@ -266,16 +266,16 @@ fn draw_saga_event(random: &mut Random, model: &Model) -> Option<Event> {
 fn forth(random: &mut Random, model: &Model, saga: usize, steps: usize) -> Event {
     let something_done = model.phase(saga + 1) == Phase::Committed;
     if random.one_in(if something_done { 6 } else { 20 }) {
-        return Event::Abort(saga as u16);
+        return Event::Abort(saga as u32);
     }
     let mut all_steps = saga + 1..=saga + steps;
     let next = all_steps.find(|step| model.phase(*step) != Phase::Committed);
-    match next.map(|step| (step as u16, model.phase(step))) {
-        None => Event::Commit(saga as u16),
+    match next.map(|step| (step as u32, model.phase(step))) {
+        None => Event::Commit(saga as u32),
         Some((step, Phase::Idle)) => Event::Begin(step),
         Some((step, Phase::Active)) if random.one_in(12) => Event::Abort(step),
         Some((step, Phase::Active)) => Event::Commit(step),
-        Some(_) => Event::Abort(saga as u16),
+        Some(_) => Event::Abort(saga as u32),
     }
 }
 
@@ -283,7 +283,7 @@ fn forth(random: &mut Random, model: &Model, saga: usize, steps: usize) -> Event
 fn back(model: &Model, saga: usize, steps: usize) -> Option<Event> {
     let mut all_steps = saga + 1..=saga + steps;
     if let Some(step) = all_steps.find(|step| model.phase(*step) == Phase::Active) {
-        return Some(Event::Abort(step as u16));
+        return Some(Event::Abort(step as u32));
     }
     let undo = (1..steps)
         .rev()
@@ -291,28 +291,29 @@ fn back(model: &Model, saga: usize, steps: usize) -> Option<Event> {
         .map(|i| saga + steps + i)
         .find(|undo| model.phase(*undo) != Phase::Committed)?;
     Some(match model.phase(undo) {
-        Phase::Active => Event::Commit(undo as u16),
-        _ => Event::Begin(undo as u16),
+        Phase::Active => Event::Commit(undo as u32),
+        _ => Event::Begin(undo as u32),
     })
 }
 
-fn draw(random: &mut Random, from: &[usize]) -> Option<u16> {
-    (!from.is_empty()).then(|| random.pick(from) as u16)
+fn draw(random: &mut Random, from: &[usize]) -> Option<u32> {
+    (!from.is_empty()).then(|| random.pick(from) as u32)
 }
 
 /// An event of the sort with the code, its fields drawn at random, now and
 /// then from outside the tables.
 pub fn wild_event(random: &mut Random, model: &Model, code: usize) -> Event {
+    let ceiling = model.ceiling;
     let transactions = model.transactions();
-    let mut transaction = || wild_field(random, transactions);
+    let mut transaction = || wild_field(random, transactions, ceiling);
     match code {
         1 => Event::Begin(transaction()),
         2 => Event::Commit(transaction()),
         3 => Event::Abort(transaction()),
         4 => Event::Operation(
             transaction(),
-            wild_field(random, model.objects.into()),
-            wild_field(random, 2),
+            wild_field(random, model.objects as usize, ceiling),
+            wild_field(random, 2, ceiling),
         ),
         5 => {
             let receiver = transaction();
@@ -332,25 +333,31 @@ pub fn wild_event(random: &mut Random, model: &Model, code: usize) -> Event {
 
 /// A transaction and an operation that it is to hand on or to end alone. Every
 /// other time it is the one that answers for it.
-fn wild_own(random: &mut Random, model: &Model) -> (u16, u16) {
-    let operation = wild_field(random, model.operations.len());
-    let t = match model.operations.get(usize::from(operation)) {
-        Some(operation) if random.one_in(2) => operation.responsible as u16,
-        _ => wild_field(random, model.transactions()),
+fn wild_own(random: &mut Random, model: &Model) -> (u32, u32) {
+    let operation = wild_field(random, model.operations.len(), model.ceiling);
+    let t = match model.operations.get(operation as usize) {
+        Some(operation) if random.one_in(2) => operation.responsible as u32,
+        _ => wild_field(random, model.transactions(), model.ceiling),
     };
     (t, operation)
 }
 
-/// Mostly a number below the limit, else often the one just above.
-fn wild_field(random: &mut Random, limit: usize) -> u16 {
+/// Mostly a number below the limit, else often the one just above, and never
+/// one above the ceiling. In edition 2 there are also such as would be below the
+/// limit if they were cut to 16 bits.
+fn wild_field(random: &mut Random, limit: usize, ceiling: u32) -> u32 {
     if limit > 0 && !random.one_in(25) {
-        return random.below(limit) as u16;
+        return random.below(limit) as u32;
     }
-    let just_above = limit as u16;
+    let just_above = limit as u32;
     if random.one_in(2) {
         return just_above;
     }
-    let outside = [just_above + 1, 64, 127, 128, 256, 16_384, u16::MAX];
+    let cut_to_below = CEILING_1 + 1 + random.below(limit.max(1)) as u32;
+    if ceiling > CEILING_1 && random.one_in(3) {
+        return cut_to_below;
+    }
+    let outside = [just_above + 1, 64, 127, 128, 256, 16_384, CEILING_1];
     random.pick(&outside)
 }
 

@@ -7,16 +7,16 @@ use crate::model::can_never_move;
 use crate::random::Random;
 use crate::story::Story;
 use crate::tables::{
-    depending_numbers, good_tables, plain_numbers, put_in_order, saga_numbers, LOWEST_BEGIN_KIND,
-    MOST_DEPENDENCIES,
+    depending_numbers, good_tables, office_records, plain_numbers, put_in_order, saga_numbers,
+    LOWEST_BEGIN_KIND, MOST_DEPENDENCIES,
 };
 
 /// Each member waits for the next, and the last for the first.
-struct Ring(Vec<u16>);
+struct Ring(Vec<u32>);
 
 impl Ring {
     /// Dependent and base of each link.
-    fn links(&self) -> impl Iterator<Item = (u16, u16)> + '_ {
+    fn links(&self) -> impl Iterator<Item = (u32, u32)> + '_ {
         let bases = self.0.iter().cycle().skip(1);
         self.0.iter().copied().zip(bases.copied())
     }
@@ -55,7 +55,7 @@ fn tables_and_ring(random: &mut Random) -> (Tables, Ring) {
 }
 
 /// Takes these entries in, and others out if there are too many.
-fn take_in(random: &mut Random, tables: &mut Tables, entries: &[[u16; 3]]) {
+fn take_in(random: &mut Random, tables: &mut Tables, entries: &[[u32; 3]]) {
     tables.dependencies.extend(entries);
     put_in_order(tables);
     while tables.dependencies.len() > MOST_DEPENDENCIES {
@@ -66,12 +66,12 @@ fn take_in(random: &mut Random, tables: &mut Tables, entries: &[[u16; 3]]) {
     }
 }
 
-fn begin_kind(random: &mut Random) -> u16 {
-    random.within(LOWEST_BEGIN_KIND.into()..=7) as u16
+fn begin_kind(random: &mut Random) -> u32 {
+    random.within(LOWEST_BEGIN_KIND as usize..=7) as u32
 }
 
-fn commit_kind(random: &mut Random) -> u16 {
-    random.within(1..=usize::from(LOWEST_BEGIN_KIND) - 1) as u16
+fn commit_kind(random: &mut Random) -> u32 {
+    random.within(1..=LOWEST_BEGIN_KIND as usize - 1) as u32
 }
 
 /// Tables with a ring of begin dependencies, now and then with others beside
@@ -97,8 +97,9 @@ fn never_moving_tables(random: &mut Random) -> (Tables, Ring) {
 /// ring.
 fn full_tables(random: &mut Random) -> (Tables, Ring) {
     let mut tables = Tables {
-        plain: random.within(8..=12) as u16,
-        objects: random.below(4) as u16,
+        records: office_records(random),
+        plain: random.within(8..=12) as u32,
+        objects: random.below(4) as u32,
         ..Tables::default()
     };
     let last = tables.plain - 1;
@@ -144,7 +145,7 @@ fn hardly_moving_tables(random: &mut Random) -> Tables {
 
 /// A story that is told only with circles permitted, acceptable but for its
 /// tables, and the transactions that can never begin in it.
-pub fn never_moving_story(random: &mut Random) -> (Story, Vec<u16>) {
+pub fn never_moving_story(random: &mut Random) -> (Story, Vec<u32>) {
     let (tables, ring) = never_moving_tables(random);
     let mut story = Story::new(tables);
     let events = random.within(0..=40);
@@ -240,7 +241,7 @@ mod tests {
         let mut lengths = HashSet::new();
         let mut entries = HashSet::new();
         let (mut with_sagas, mut of_sagas, mut with_both) = (0, 0, 0);
-        for index in 0..600 {
+        for index in 0..900 {
             let (tables, Ring(members)) = never_moving_tables(&mut Random::new(21, index));
             let sagas = saga_numbers(&tables);
             let of_these = members.iter().filter(|t| sagas.contains(t)).count();

@@ -1,18 +1,18 @@
 //! Good tables, mostly small so that transactions meet on the same objects.
 
-use crate::draft::Tables;
+use crate::draft::{Tables, CEILING_2};
 use crate::random::Random;
 use std::ops::RangeInclusive;
 
 const MOST_TRANSACTIONS: usize = 64;
 pub const MOST_DEPENDENCIES: usize = 128;
 /// Kinds from this one to 7 bar a begin, lower ones a commit.
-pub const LOWEST_BEGIN_KIND: u16 = 4;
+pub const LOWEST_BEGIN_KIND: u32 = 4;
 
 /// Tables that are taken.
 pub fn good_tables(random: &mut Random) -> Tables {
     let steps = saga_steps(random);
-    let in_sagas = 2 * usize::from(steps.iter().sum::<u16>());
+    let in_sagas = 2 * steps.iter().sum::<u32>() as usize;
     let room = MOST_TRANSACTIONS - in_sagas;
     let plain = match random.below(30) {
         0 => room,
@@ -26,9 +26,10 @@ pub fn good_tables(random: &mut Random) -> Tables {
         _ => random.within(1..=4),
     };
     let mut tables = Tables {
+        records: office_records(random),
         steps,
-        plain: plain as u16,
-        objects: objects as u16,
+        plain: plain as u32,
+        objects: objects as u32,
         dependencies: Vec::new(),
     };
     let entries = match random.below(40) {
@@ -40,7 +41,27 @@ pub fn good_tables(random: &mut Random) -> Tables {
     tables
 }
 
-fn saga_steps(random: &mut Random) -> Vec<u16> {
+/// Every third time a book is in edition 2: then the pupil records that its
+/// operations are about, most of them at the ends of what one, two or three
+/// groups hold.
+pub fn office_records(random: &mut Random) -> Option<Vec<u32>> {
+    random.one_in(3).then(|| {
+        let records = random.within(1..=12);
+        (0..records).map(|_| record(random)).collect()
+    })
+}
+
+fn record(random: &mut Random) -> u32 {
+    const ENDS: [u32; 11] = [
+        0, 1, 127, 128, 16_383, 16_384, 65_535, 65_536, 70_000, 2_097_150, CEILING_2,
+    ];
+    match random.below(4) {
+        0 => random.below(CEILING_2 as usize + 1) as u32,
+        _ => random.pick(&ENDS),
+    }
+}
+
+fn saga_steps(random: &mut Random) -> Vec<u32> {
     match random.below(40) {
         0 => vec![2; 16],
         1 => vec![16, 16],
@@ -48,7 +69,7 @@ fn saga_steps(random: &mut Random) -> Vec<u16> {
         3 => vec![16],
         4..=9 => Vec::new(),
         _ => (0..random.within(1..=4))
-            .map(|_| random.within(1..=5) as u16)
+            .map(|_| random.within(1..=5) as u32)
             .collect(),
     }
 }
@@ -66,7 +87,7 @@ fn declare_dependencies(random: &mut Random, tables: &mut Tables, entries: usize
         if one == other {
             continue;
         }
-        let kind = random.within(allowed_kinds(tables, order[one])) as u16;
+        let kind = random.within(allowed_kinds(tables, order[one])) as u32;
         let entry = if kind >= LOWEST_BEGIN_KIND {
             [order[one.max(other)], order[one.min(other)], kind]
         } else {
@@ -88,7 +109,7 @@ pub fn put_in_order(tables: &mut Tables) {
 }
 
 /// The kinds of entries in which the transaction may be the dependent.
-fn allowed_kinds(tables: &Tables, dependent: u16) -> RangeInclusive<usize> {
+fn allowed_kinds(tables: &Tables, dependent: u32) -> RangeInclusive<usize> {
     if plain_numbers(tables).contains(&dependent) {
         1..=7
     } else {
@@ -97,12 +118,12 @@ fn allowed_kinds(tables: &Tables, dependent: u16) -> RangeInclusive<usize> {
 }
 
 /// The numbers of the transactions that may depend and be depended on.
-pub fn depending_numbers(tables: &Tables) -> Vec<u16> {
+pub fn depending_numbers(tables: &Tables) -> Vec<u32> {
     [saga_numbers(tables), plain_numbers(tables)].concat()
 }
 
 /// The numbers of the transactions S.
-pub fn saga_numbers(tables: &Tables) -> Vec<u16> {
+pub fn saga_numbers(tables: &Tables) -> Vec<u32> {
     let mut first = 0;
     let mut numbers = Vec::new();
     for steps in &tables.steps {
@@ -113,7 +134,7 @@ pub fn saga_numbers(tables: &Tables) -> Vec<u16> {
 }
 
 /// The numbers of the plain transactions.
-pub fn plain_numbers(tables: &Tables) -> Vec<u16> {
+pub fn plain_numbers(tables: &Tables) -> Vec<u32> {
     let transactions = tables.transactions();
     (transactions - tables.plain..transactions).collect()
 }

@@ -7,8 +7,8 @@ use crate::random::Random;
 use crate::story::Story;
 use crate::tables::{plain_numbers, tables_for};
 
-const READ: u16 = 0;
-const WRITE: u16 = 1;
+const READ: u32 = 0;
+const WRITE: u32 = 1;
 /// How many draws until filling a story up is given up.
 const DRAWS: usize = 1500;
 
@@ -53,26 +53,26 @@ pub fn story_around_an_undo(random: &mut Random) -> Option<Story> {
     stand_after(random, &mut story, after, written, last_list);
     if !random.one_in(4) {
         let worked_on = random.pick(&[written, last_list, last_list]);
-        story.go_on_with(Event::Operation(last, worked_on, random.below(2) as u16));
+        story.go_on_with(Event::Operation(last, worked_on, random.below(2) as u32));
     }
     let filled = !random.one_in(3) || fill_up_around_an_undo(random, &mut story);
     filled.then_some(story)
 }
 
-fn active_clerks(model: &Model) -> Vec<u16> {
-    model.active_plain().iter().map(|t| *t as u16).collect()
+fn active_clerks(model: &Model) -> Vec<u32> {
+    model.active_plain().iter().map(|t| *t as u32).collect()
 }
 
 /// Begins the undo of the first step of some saga; none if none may begin.
-fn begin_some_undo(random: &mut Random, story: &mut Story) -> Option<u16> {
+fn begin_some_undo(random: &mut Random, story: &mut Story) -> Option<u32> {
     let mut sagas = story.model.sagas();
     sagas.retain(|(_, steps)| *steps > 1);
     random
         .shuffled(sagas)
         .into_iter()
         .find_map(|(saga, steps)| {
-            let (saga, first_step) = (saga as u16, saga as u16 + 1);
-            let undo = saga + steps as u16 + 1;
+            let (saga, first_step) = (saga as u32, saga as u32 + 1);
+            let undo = saga + steps as u32 + 1;
             let on_the_way = [
                 Event::Begin(saga),
                 Event::Begin(first_step),
@@ -89,15 +89,15 @@ fn begin_some_undo(random: &mut Random, story: &mut Story) -> Option<u16> {
 
 /// A clerk works on a list that is to be undone, keeps that one change alone,
 /// so that nobody waits for it, and stays.
-fn stand_before(random: &mut Random, story: &mut Story, clerk: u16, list: u16) {
-    let kept = story.model.operations.len() as u16;
-    story.go_on_with(Event::Operation(clerk, list, random.below(2) as u16));
+fn stand_before(random: &mut Random, story: &mut Story, clerk: u32, list: u32) {
+    let kept = story.model.operations.len() as u32;
+    story.go_on_with(Event::Operation(clerk, list, random.below(2) as u32));
     story.go_on_with(Event::CommitOperation(clerk, kept));
 }
 
 /// Mostly, a clerk works on what the undo has written and on another list, and
 /// now and then is done with it.
-fn stand_after(random: &mut Random, story: &mut Story, clerk: u16, written: u16, other: u16) {
+fn stand_after(random: &mut Random, story: &mut Story, clerk: u32, written: u32, other: u32) {
     if random.one_in(4) {
         return;
     }
@@ -120,8 +120,8 @@ fn fill_up_around_an_undo(random: &mut Random, story: &mut Story) -> bool {
         if story.model.is_full() {
             return true;
         }
-        let object = random.below(story.model.objects.into()) as u16;
-        let mark = u16::from(random.one_in(100));
+        let object = random.below(story.model.objects as usize) as u32;
+        let mark = u32::from(random.one_in(100));
         story.go_on_with(Event::Operation(random.pick(&clerks), object, mark));
     }
     false

@@ -77,8 +77,10 @@ fn operation_line(reading: &Reading, number: usize) -> String {
         Mark::Read => "read",
         Mark::Write => "write",
     };
+    let record = reading.records.get(number);
+    let record = record.map_or(String::new(), |record| format!(" {record}"));
     format!(
-        "op {number} {} {mark} {} {}\n",
+        "op {number} {} {mark} {} {}{record}\n",
         state.object(number),
         state.responsible(number),
         phase_word(state.operation_phase(number))

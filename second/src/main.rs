@@ -132,7 +132,7 @@ fn unpack(room_size: usize) -> Result<Vec<u8>, String> {
     })
 }
 
-fn unpacked_lines(fields: &[u16]) -> Vec<u8> {
+fn unpacked_lines(fields: &[u32]) -> Vec<u8> {
     let mut text = format!("unpacked {}\n", fields.len());
     for field in fields {
         writeln!(text, "{field}").expect("a text takes every line");
@@ -149,17 +149,17 @@ fn write(room_size: usize) -> Result<Vec<u8>, String> {
     })
 }
 
-fn fields_from_input() -> Result<Vec<u16>, String> {
+fn fields_from_input() -> Result<Vec<u32>, String> {
     let text = io::read_to_string(io::stdin().lock())
         .map_err(|error| format!("standard input: {error}"))?;
     text.split_whitespace().map(field).collect()
 }
 
-fn field(word: &str) -> Result<u16, String> {
+fn field(word: &str) -> Result<u32, String> {
     Some(word)
         .filter(|text| is_decimal(text))
         .and_then(|text| text.parse().ok())
-        .ok_or_else(|| format!("not a field from 0 to 65535: {word}"))
+        .ok_or_else(|| format!("not a field from 0 to 4294967295: {word}"))
 }
 
 fn written_lines(bytes: &[u8]) -> Vec<u8> {

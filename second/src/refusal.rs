@@ -7,9 +7,9 @@ pub const ACCEPTED: u8 = 0;
 pub const BOOK_TOO_LONG: u8 = 1;
 /// The book ends inside a number, or before a field that is due.
 pub const ENDS_EARLY: u8 = 2;
-/// A number is not in its shortest form, too long, or above 65,535.
+/// A number is not in its shortest form, too long, or above the ceiling of the edition.
 pub const BAD_NUMBER: u8 = 3;
-/// The edition is not 1.
+/// The edition is neither 1 nor 2.
 pub const BAD_EDITION: u8 = 4;
 /// A table count is out of its range, or takes the transactions above 64.
 pub const BAD_COUNT: u8 = 5;

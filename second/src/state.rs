@@ -209,8 +209,8 @@ impl State {
     fn keep_left(
         &mut self,
         tables: &Tables,
-        transaction: u16,
-        judge: impl FnOnce(&mut State, &Tables, u16) -> Result<(), u8>,
+        transaction: u32,
+        judge: impl FnOnce(&mut State, &Tables, u32) -> Result<(), u8>,
     ) -> Result<(), u8> {
         let Some(saga) = tables.saga_owning(transaction) else {
             return judge(self, tables, transaction);
@@ -221,7 +221,7 @@ impl State {
         Ok(())
     }
 
-    fn begin(&mut self, tables: &Tables, transaction: u16) -> Result<(), u8> {
+    fn begin(&mut self, tables: &Tables, transaction: u32) -> Result<(), u8> {
         let t = known_transaction(tables, transaction)?;
         refuse_unless(self.is_idle(t), refusal::NOT_IDLE)?;
         refuse_unless(self.saga_lets_begin(tables, t), refusal::SAGA_RULE)?;
@@ -233,7 +233,7 @@ impl State {
         Ok(())
     }
 
-    fn commit(&mut self, tables: &Tables, transaction: u16) -> Result<(), u8> {
+    fn commit(&mut self, tables: &Tables, transaction: u32) -> Result<(), u8> {
         let t = known_transaction(tables, transaction)?;
         refuse_unless(self.is_active(t), refusal::NOT_ACTIVE)?;
         refuse_unless(self.saga_lets_commit(tables, t), refusal::SAGA_RULE)?;
@@ -251,7 +251,7 @@ impl State {
         Ok(())
     }
 
-    fn abort(&mut self, tables: &Tables, transaction: u16) -> Result<(), u8> {
+    fn abort(&mut self, tables: &Tables, transaction: u32) -> Result<(), u8> {
         let t = known_transaction(tables, transaction)?;
         let sort = tables.sort(t);
         refuse_unless(!matches!(sort, Sort::Undo { .. }), refusal::NEVER_DONE)?;
@@ -272,9 +272,9 @@ impl State {
     fn operate(
         &mut self,
         tables: &Tables,
-        transaction: u16,
-        object: u16,
-        mark: u16,
+        transaction: u32,
+        object: u32,
+        mark: u32,
     ) -> Result<(), u8> {
         let t = known_transaction(tables, transaction)?;
         let object = known_object(tables, object)?;
@@ -317,9 +317,9 @@ impl State {
     fn delegate(
         &mut self,
         tables: &Tables,
-        giver: u16,
-        receiver: u16,
-        operation: u16,
+        giver: u32,
+        receiver: u32,
+        operation: u32,
     ) -> Result<(), u8> {
         let giver = known_transaction(tables, giver)?;
         let receiver = known_transaction(tables, receiver)?;
@@ -352,8 +352,8 @@ impl State {
     fn commit_operation(
         &mut self,
         tables: &Tables,
-        transaction: u16,
-        operation: u16,
+        transaction: u32,
+        operation: u32,
     ) -> Result<(), u8> {
         let (t, operation) = self.own_active_operation(tables, transaction, operation)?;
         let read = OperationSet::of(operation).without(&self.writes);
@@ -367,8 +367,8 @@ impl State {
     fn abort_operation(
         &mut self,
         tables: &Tables,
-        transaction: u16,
-        operation: u16,
+        transaction: u32,
+        operation: u32,
     ) -> Result<(), u8> {
         let (_, operation) = self.own_active_operation(tables, transaction, operation)?;
         self.end_alone(operation);
@@ -381,8 +381,8 @@ impl State {
     fn own_active_operation(
         &self,
         tables: &Tables,
-        transaction: u16,
-        operation: u16,
+        transaction: u32,
+        operation: u32,
     ) -> Result<(usize, usize), u8> {
         let t = known_transaction(tables, transaction)?;
         let operation = self.known_operation(operation)?;
@@ -396,8 +396,8 @@ impl State {
         Ok((t, operation))
     }
 
-    fn known_operation(&self, operation: u16) -> Result<usize, u8> {
-        let operation = usize::from(operation);
+    fn known_operation(&self, operation: u32) -> Result<usize, u8> {
+        let operation = operation as usize;
         refuse_unless(operation < self.accepted, refusal::NOT_IN_THE_TABLES)?;
         Ok(operation)
     }
@@ -551,19 +551,19 @@ impl State {
     }
 }
 
-fn known_transaction(tables: &Tables, transaction: u16) -> Result<usize, u8> {
-    let t = usize::from(transaction);
+fn known_transaction(tables: &Tables, transaction: u32) -> Result<usize, u8> {
+    let t = transaction as usize;
     refuse_unless(t < tables.transactions(), refusal::NOT_IN_THE_TABLES)?;
     Ok(t)
 }
 
-fn known_object(tables: &Tables, object: u16) -> Result<usize, u8> {
-    let object = usize::from(object);
+fn known_object(tables: &Tables, object: u32) -> Result<usize, u8> {
+    let object = object as usize;
     refuse_unless(object < tables.objects(), refusal::NOT_IN_THE_TABLES)?;
     Ok(object)
 }
 
-fn known_mark(mark: u16) -> Result<Mark, u8> {
+fn known_mark(mark: u32) -> Result<Mark, u8> {
     match mark {
         0 => Ok(Mark::Read),
         1 => Ok(Mark::Write),

@@ -1,13 +1,11 @@
 //! The tables at the beginning of a book: which transactions there are and
 //! which dependencies are declared between them.
 
-use crate::fields::Fields;
+use crate::fields::{Ceiling, Fields};
 use crate::refusal;
 use crate::Stop;
 use std::ops::RangeInclusive;
 
-/// The only edition of a book.
-const EDITION: u16 = 1;
 /// At most this many transactions stand in a book.
 pub const MOST_TRANSACTIONS: usize = 64;
 const MOST_SAGAS: usize = 16;
@@ -15,6 +13,33 @@ const MOST_STEPS: usize = 16;
 /// At most this many objects stand in a book.
 pub const MOST_OBJECTS: usize = 32;
 const MOST_DEPENDENCIES: usize = 128;
+
+/// The edition that a book is written in.
+#[derive(Clone, Copy, Debug, PartialEq, Eq)]
+pub enum Edition {
+    First,
+    /// The one exchanged with the office: its numbers go higher, and each
+    /// operation names a pupil record.
+    Second,
+}
+
+impl Edition {
+    fn numbered(number: u32) -> Option<Edition> {
+        match number {
+            1 => Some(Edition::First),
+            2 => Some(Edition::Second),
+            _ => None,
+        }
+    }
+
+    /// How high the fields behind the edition may be.
+    pub(crate) fn ceiling(self) -> Ceiling {
+        match self {
+            Edition::First => Ceiling::OF_EDITION_1,
+            Edition::Second => Ceiling::OF_EDITION_2,
+        }
+    }
+}
 
 /// What a transaction is.
 #[derive(Clone, Copy, Debug, PartialEq, Eq)]
@@ -84,7 +109,7 @@ pub enum Kind {
 }
 
 impl Kind {
-    fn numbered(number: u16) -> Option<Kind> {
+    fn numbered(number: u32) -> Option<Kind> {
         Some(match number {
             1 => Kind::Commit,
             2 => Kind::Abort,
@@ -135,6 +160,7 @@ impl Dependency {
 /// The tables of a book; without any entry if they were refused.
 #[derive(Clone, Debug)]
 pub struct Tables {
+    edition: Edition,
     saga_count: usize,
     sagas: [Saga; MOST_SAGAS],
     transactions: usize,
@@ -150,6 +176,7 @@ pub struct Tables {
 impl Tables {
     /// Tables without any entry.
     pub(crate) const EMPTY: Tables = Tables {
+        edition: Edition::First,
         saga_count: 0,
         sagas: [Saga { first: 0, steps: 0 }; MOST_SAGAS],
         transactions: 0,
@@ -164,6 +191,12 @@ impl Tables {
         }; MOST_DEPENDENCIES],
         dependencies_of: [(0, 0); MOST_TRANSACTIONS],
     };
+
+    /// The edition of the book.
+    #[inline]
+    pub fn edition(&self) -> Edition {
+        self.edition
+    }
 
     /// How many transactions there are.
     #[inline]
@@ -197,8 +230,8 @@ impl Tables {
     /// The saga that a transaction belongs to; none for a plain one, or one that
     /// is not in the tables.
     #[inline]
-    pub(crate) fn saga_owning(&self, transaction: u16) -> Option<Saga> {
-        let transaction = usize::from(transaction);
+    pub(crate) fn saga_owning(&self, transaction: u32) -> Option<Saga> {
+        let transaction = transaction as usize;
         let whole = match self.sorts.get(transaction)? {
             Sort::Plain => return None,
             Sort::Saga { .. } => transaction,
@@ -234,7 +267,8 @@ impl Tables {
         fields: &mut impl Fields,
         never_moving: NeverMoving,
     ) -> Result<(), Stop> {
-        read_edition(fields)?;
+        self.edition = read_edition(fields)?;
+        fields.raise_to(self.edition.ceiling());
         for _ in 0..read_count(fields, 0..=MOST_SAGAS)? {
             self.read_saga(fields)?;
         }
@@ -348,8 +382,8 @@ impl Tables {
     }
 
     /// The entry, if it may stand after those read so far.
-    fn allowed_dependency(&self, dependent: u16, base: u16, kind: u16) -> Option<Dependency> {
-        let known = |number: u16| (usize::from(number) < self.transactions).then_some(number as u8);
+    fn allowed_dependency(&self, dependent: u32, base: u32, kind: u32) -> Option<Dependency> {
+        let known = |number: u32| ((number as usize) < self.transactions).then_some(number as u8);
         let entry = Dependency {
             dependent: known(dependent)?,
             base: known(base)?,
@@ -370,20 +404,17 @@ impl Tables {
     }
 }
 
-fn read_edition(fields: &mut impl Fields) -> Result<(), Stop> {
+fn read_edition(fields: &mut impl Fields) -> Result<Edition, Stop> {
     let place = fields.place();
-    if read_field(fields)? != EDITION {
-        return Err(Stop {
-            number: refusal::BAD_EDITION,
-            place,
-        });
-    }
-    Ok(())
+    Edition::numbered(read_field(fields)?).ok_or(Stop {
+        number: refusal::BAD_EDITION,
+        place,
+    })
 }
 
 fn read_count(fields: &mut impl Fields, range: RangeInclusive<usize>) -> Result<usize, Stop> {
     let place = fields.place();
-    let count = usize::from(read_field(fields)?);
+    let count = read_field(fields)? as usize;
     if !range.contains(&count) {
         return Err(Stop {
             number: refusal::BAD_COUNT,
@@ -395,7 +426,7 @@ fn read_count(fields: &mut impl Fields, range: RangeInclusive<usize>) -> Result<
 
 /// One field, or refusal 2 or 3 at that field.
 #[inline]
-pub fn read_field(fields: &mut impl Fields) -> Result<u16, Stop> {
+pub fn read_field(fields: &mut impl Fields) -> Result<u32, Stop> {
     fields.next().map_err(|number| Stop {
         number,
         place: fields.place(),

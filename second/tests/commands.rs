@@ -198,6 +198,20 @@ fn write() {
     );
     answers(&["write"], b" \n", "refused 2 0 0\n");
     answers(&["write"], b"1\t0 0\n0 0\n65535", "refused 7 0 5\n");
+    answers(&["write"], b"1 0 0 0 0 65536", "refused 3 0 5\n");
+    answers(&["write"], b"1 0 0 0 0 4294967295", "refused 3 0 5\n");
+}
+
+#[test]
+fn edition_2() {
+    let fields = "2 0 1 1 0 1 0 4 0 0 1 2097151";
+    let written = "written 14\n02 00 01 01 00 01 00 04 00 00 01 FF FF 7F\n";
+    answers(&["write"], fields.as_bytes(), written);
+    let book = [2, 0, 1, 1, 0, 1, 0, 4, 0, 0, 1, 0xFF, 0xFF, 0x7F];
+    let listing = "book accepted 2\nt 0 active\nop 0 0 write 0 active 2097151\n";
+    answers(&["listing"], &book, listing);
+    let unpacked = fields.replace(' ', "\n");
+    answers(&["unpack"], &book, &format!("unpacked 12\n{unpacked}\n"));
 }
 
 #[test]
@@ -290,7 +304,7 @@ fn bad_input_to_the_tool() {
     complains(&["unpack", "+5"], &LISTED);
     complains(&["unpack", "99999999999999999999999"], &LISTED);
     complains(&["write"], b"1 0 0 0 x");
-    complains(&["write"], b"1 0 0 0 65536");
+    complains(&["write"], b"1 0 0 0 4294967296");
     complains(&["write"], b"1 0 0 0 +0");
     complains(&["write"], b"1 0 0 0 -1");
     complains(&["write"], &[0xFF, 0xFE]);

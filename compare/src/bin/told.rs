@@ -101,8 +101,8 @@ fn take_case(rest: &mut &[u8]) -> Option<Case> {
     let length = take_three(rest)?;
     let bytes = take(rest, length)?;
     let fields = || {
-        bytes.chunks(2).map(|field| match field {
-            [low, high] => u16::from_le_bytes([*low, *high]),
+        bytes.chunks(4).map(|field| match field {
+            [a, b, c, d] => u32::from_le_bytes([*a, *b, *c, *d]),
             _ => 0,
         })
     };
@@ -144,7 +144,7 @@ mod tests {
 
     #[test]
     fn a_question_is_read_back() {
-        let text = "b 01 80 /3\nw 7 300 65535\nc 01\nm \"list a\" | 01\nb x70000 01\n\
+        let text = "b 01 80 /3\nw 7 300 65536 4294967295\nc 01\nm \"list a\" | 01\nb x70000 01\n\
                     r 01 02 /4\nf 01 /5\nf 02\ng 03\n";
         let cases = fixed(text).unwrap();
         let read: Vec<Case> = asked(&question(&cases)).unwrap();

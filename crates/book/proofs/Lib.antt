@@ -14,3 +14,4 @@ pub mod EdgeLaws
 pub mod PlaceLaws
 pub mod AnsweredLaws
 pub mod DemandsHold
+pub mod AsBeforeHolds

@@ -4,3 +4,4 @@ pub mod Walked
 pub mod Packing
 pub mod Demands
 pub mod Back
+pub mod Before

@@ -14,7 +14,6 @@ use libc::STDIN_FILENO;
 use libc::STDOUT_FILENO;
 use listing::Listing;
 use listing::Put;
-use number::Number;
 use onward::Judgement;
 use replay::Copied;
 use tables::Circles;
@@ -61,7 +60,7 @@ fn say_refused(refusal: Refusal, events: usize, place: usize) {
 // Reads a book in one of the ways.
 fn judged(way: Way, circles: Circles, bytes: &[u8]) -> Judgement {
     match way {
-        Way::On => onward::read_by(bytes, Number::MOST, circles),
+        Way::On => onward::read_by(bytes, circles),
         Way::ToFirstRefusal => match circles {
             Circles::Forbidden => onward::read_to_first_refusal(bytes),
             Circles::Permitted => onward::read_to_first_refusal_permitting_circles(bytes),
@@ -120,12 +119,12 @@ fn say_report(judgement: Judgement) {
 }
 
 // A field on a line of its own.
-fn say_field(field: u16) {
+fn say_field(field: u32) {
     say_number(field as usize);
     say(b"\n");
 }
 
-fn say_fields(fields: &[u16]) {
+fn say_fields(fields: &[u32]) {
     let mut i: usize = 0;
     while i < fields.len() {
         say_field(fields[i]);
@@ -133,7 +132,7 @@ fn say_fields(fields: &[u16]) {
     }
 }
 
-fn unpack(bytes: &[u8], room: &mut [u16]) {
+fn unpack(bytes: &[u8], room: &mut [u32]) {
     match book::unpack(bytes, room) {
         Outcome::Wrote(n) => {
             say_count(b"unpacked", n);
@@ -197,7 +196,7 @@ fn say_state(judgement: Judgement) {
 }
 
 // A book whose begin dependencies may not go round in a circle.
-fn answer_book(way: Way, bytes: &[u8], room: &mut [u16]) {
+fn answer_book(way: Way, bytes: &[u8], room: &mut [u32]) {
     say_listing(way, Circles::Forbidden, bytes);
     let opening = book::opening(bytes);
     say_count(b"opening", opening.len());
@@ -213,7 +212,7 @@ fn circles_case(way: Way, bytes: &[u8]) {
     say_state(judged(way, Circles::Permitted, bytes));
 }
 
-fn answer_write(fields: &[u16], room: &mut [u8]) {
+fn answer_write(fields: &[u32], room: &mut [u8]) {
     match book::write(fields, room) {
         Outcome::Wrote(n) => {
             say_count(b"written", n);
@@ -231,28 +230,31 @@ fn three(low: u8, middle: u8, high: u8) -> usize {
     low as usize | (middle as usize) << 8 | (high as usize) << 16
 }
 
-// A field of two bytes, low byte first.
-fn two(low: u8, high: u8) -> u16 {
-    low as u16 | (high as u16) << 8
+// A field of four bytes, low byte first.
+fn four(a: u8, b: u8, c: u8, d: u8) -> u32 {
+    a as u32 | (b as u32) << 8 | (c as u32) << 16 | (d as u32) << 24
 }
 
 // The fields that these bytes hold, at the front of a list; how many there are.
-fn fields_from(bytes: &[u8], fields: &mut [u16]) -> usize {
+fn fields_from(bytes: &[u8], fields: &mut [u32]) -> usize {
     let mut i: usize = 0;
     while i < fields.len() {
-        if bytes.len() / 2 <= i {
+        if bytes.len() / 4 <= i {
             return i;
         }
-        let low = bytes[2 * i];
-        let high = bytes[2 * i + 1];
-        fields[i] = two(low, high);
+        let at = 4 * i;
+        let a = bytes[at];
+        let b = bytes[at + 1];
+        let c = bytes[at + 2];
+        let d = bytes[at + 3];
+        fields[i] = four(a, b, c, d);
         i += 1;
     }
     i
 }
 
 fn book_case(way: Way, bytes: &[u8], size: usize) {
-    let mut room = [0u16; 65536];
+    let mut room = [0u32; 65536];
     if 65536 < size {
         return;
     }
@@ -269,7 +271,7 @@ fn replay_case(bytes: &[u8], size: usize) {
 }
 
 fn write_case(bytes: &[u8], size: usize) {
-    let mut fields = [0u16; 65537];
+    let mut fields = [0u32; 65537];
     let mut room = [0u8; 65536];
     let n = fields_from(bytes, &mut fields);
     if 65537 < n {
@@ -369,8 +371,8 @@ fn one_case(k: usize) -> Came {
     };
     let size = three(head[1], head[2], head[3]);
     let length = three(head[4], head[5], head[6]);
-    let mut bytes = [0u8; 131074];
-    if 131074 < length {
+    let mut bytes = [0u8; 262148];
+    if 262148 < length {
         return Came::Torn;
     }
     read_and_answer(k, head[0], &mut bytes[..length], size)

@@ -59,4 +59,4 @@ commits tables well es =
         by-undo (sortOf tables u) (x .0) (λ f n j e. undo-commits tables well (reached tables es) tidy u f n j e (active-is (phaseOf (reached tables es .transactions) u) (x .1)))
 
 pub always-commits : AlwaysCommits
-always-commits circles cap s at e es = commits (tablesBy circles cap s .tables) (accepted-well circles cap s at e) es
+always-commits circles ed s at e es = commits (tablesBy circles ed s .tables) (accepted-well circles ed s at e) es

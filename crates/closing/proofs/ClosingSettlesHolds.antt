@@ -196,4 +196,4 @@ closing-settles tables well es =
     }
 
 pub closing-settles-read : ClosingSettlesRead
-closing-settles-read circles cap book at e es = closing-settles (tablesBy circles cap book .tables) (accepted-well circles cap book at e) es
+closing-settles-read circles ed book at e es = closing-settles (tablesBy circles ed book .tables) (accepted-well circles ed book at e) es

@@ -265,4 +265,4 @@ pub demand3 : Demand3
 demand3 = demand
 
 pub demand3-read : Demand3Read
-demand3-read circles cap s at e i low = demand3 (tablesBy circles cap s .tables) (accepted-well circles cap s at e) i low
+demand3-read circles ed s at e i low = demand3 (tablesBy circles ed s .tables) (accepted-well circles ed s at e) i low

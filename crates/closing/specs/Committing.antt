@@ -6,6 +6,7 @@ use mathlib.Core.List.{List}
 use Rattle.terms.specs.declared.Event.{Event}
 use Rattle.terms.specs.declared.Event.the-variants.{Commit}
 use Rattle.terms.specs.declared.Verdict.the-variants.{Accepted}
+use Rattle.number.specs.declared.Edition.{Edition}
 use Rattle.ties.specs.Ties.{dirty, onRing}
 use Rattle.tables.specs.Reading.{tablesBy}
 use Rattle.tables.specs.Sorts.{isSaga, sortOf}
@@ -31,5 +32,5 @@ pub record Commits (tables : Tables) (es : List Event) : Type 0 where
 
 -- for all tables that reading accepts, and whatever the events
 abbrev pub AlwaysCommits : Type 0
-AlwaysCommits = (circles : Circles) (cap : ℕ) (s : List ℕ) (at : ℕ) → tablesBy circles cap s .answer ≡ Read at
-    → (es : List Event) → Commits (tablesBy circles cap s .tables) es
+AlwaysCommits = (circles : Circles) (ed : Edition) (s : List ℕ) (at : ℕ) → tablesBy circles ed s .answer ≡ Read at
+    → (es : List Event) → Commits (tablesBy circles ed s .tables) es

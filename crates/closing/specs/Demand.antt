@@ -7,6 +7,7 @@ use mathlib.Core.Option.{some}
 use mathlib.Core.List.{List, [], _∷_, _++_}
 use lib.Dec.{ltb, leb}
 use Rattle.terms.specs.declared.Verdict.the-variants.{Accepted}
+use Rattle.number.specs.declared.Edition.{Edition}
 use Rattle.tables.specs.Accepted.{Well}
 use Rattle.tables.specs.Sorts.{firstOf, stepsOf}
 use Rattle.tables.specs.Reading.{tablesBy}
@@ -115,5 +116,5 @@ Demand3 = (tables : Tables) → Well tables → (i : ℕ) → i < tables .sagas 
 
 -- so for all tables that reading accepts, circles permitted or not
 abbrev pub Demand3Read : Type 0
-Demand3Read = (circles : Circles) (cap : ℕ) (s : List ℕ) (at : ℕ) → tablesBy circles cap s .answer ≡ Read at
-    → (i : ℕ) → i < tablesBy circles cap s .tables .sagas → Demand (tablesBy circles cap s .tables) i
+Demand3Read = (circles : Circles) (ed : Edition) (s : List ℕ) (at : ℕ) → tablesBy circles ed s .answer ≡ Read at
+    → (i : ℕ) → i < tablesBy circles ed s .tables .sagas → Demand (tablesBy circles ed s .tables) i

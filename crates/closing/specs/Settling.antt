@@ -7,6 +7,7 @@ use mathlib.Core.Bool.{true}
 use mathlib.Core.Option.{Option, none, some}
 use mathlib.Core.List.{List, [], _∷_, _++_}
 use lib.ListN.{length}
+use Rattle.number.specs.declared.Edition.{Edition}
 use Rattle.tables.specs.Accepted.{Well}
 use Rattle.tables.specs.Sorts.{firstOf, stepsOf}
 use Rattle.tables.specs.Reading.{tablesBy}
@@ -62,8 +63,8 @@ ClosingSettles = (tables : Tables) → Well tables → (es : List Event) → Set
 
 -- so for all tables that reading accepts, circles permitted or not
 abbrev pub ClosingSettlesRead : Type 0
-ClosingSettlesRead = (circles : Circles) (cap : ℕ) (s : List ℕ) (at : ℕ) → tablesBy circles cap s .answer ≡ Read at
-    → (es : List Event) → Settles (tablesBy circles cap s .tables) es
+ClosingSettlesRead = (circles : Circles) (ed : Edition) (s : List ℕ) (at : ℕ) → tablesBy circles ed s .answer ≡ Read at
+    → (es : List Event) → Settles (tablesBy circles ed s .tables) es
 
 -- ---- what a settled saga has run
 

@@ -178,4 +178,4 @@ pub kept : SumKept
 kept = keeps-sum
 
 pub kept-read : SumKeptRead
-kept-read circles cap s at e = keeps-sum (tablesBy circles cap s .tables) (accepted-well circles cap s at e)
+kept-read circles ed s at e = keeps-sum (tablesBy circles ed s .tables) (accepted-well circles ed s at e)

@@ -7,6 +7,7 @@ use Rattle.terms.specs.Limits.{mostTransactions}
 use Rattle.terms.specs.declared.Event.{Event}
 use Rattle.terms.specs.declared.Refusal.{Refusal}
 use Rattle.terms.specs.declared.Verdict.the-variants.{Refused}
+use Rattle.number.specs.declared.Edition.{Edition}
 use Rattle.tables.specs.Accepted.{Well}
 use Rattle.tables.specs.Reading.{tablesBy}
 use Rattle.tables.specs.Sorts.{firstOf, stepsOf}
@@ -44,4 +45,4 @@ SumKept = (tables : Tables) → Well tables → KeepsSum tables
 
 -- so for all tables that reading accepts, circles permitted or not
 abbrev pub SumKeptRead : Type 0
-SumKeptRead = (circles : Circles) (cap : ℕ) (s : List ℕ) (at : ℕ) → tablesBy circles cap s .answer ≡ Read at → KeepsSum (tablesBy circles cap s .tables)
+SumKeptRead = (circles : Circles) (ed : Edition) (s : List ℕ) (at : ℕ) → tablesBy circles ed s .answer ≡ Read at → KeepsSum (tablesBy circles ed s .tables)

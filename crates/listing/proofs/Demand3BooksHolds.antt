@@ -24,12 +24,12 @@ saga-there tables es s i e d =
 
 pub demand3-books : Demand3Books
 unfolding judgementOn
-demand3-books circles cap s at small read i below =
-    let tables = tablesBy circles cap s .tables in
-    let d = demand3-read circles cap s at read i below in
+demand3-books circles ed s at small read i below =
+    let tables = tablesBy circles ed s .tables in
+    let d = demand3-read circles ed s at read i below in
     record {
       read-on =
-          saga-there tables (eventsIn (itemsAfter cap s at)) _ i
-          (ap (λ (x : Judgement). x .state) (reading-on-holds .reads circles cap s at small read .judgement)) d;
-      to-first-refusal = saga-there tables (eventsOf circles cap s at) _ i (demand2 .reads circles cap s at small read .led-to) d;
+          saga-there tables (eventsIn (itemsAfter ed s at)) _ i
+          (ap (λ (x : Judgement). x .state) (reading-on-holds .reads circles ed s at small read .judgement)) d;
+      to-first-refusal = saga-there tables (eventsOf circles ed s at) _ i (demand2 .reads circles ed s at small read .led-to) d;
     }

@@ -10,3 +10,4 @@ pub mod SizeLaws
 pub mod WholeLaws
 pub mod ListingsFitHold
 pub mod Demand3BooksHolds
+pub mod RecordsEndLinesHold

@@ -6,11 +6,13 @@ use mathlib.Core.List.{List, []}
 use native.Mathlib.Omega.{arith}
 use borrow.Author.Tests.{lt-ltb, le-ltb, le-leb, lt-leb, eq-eqb, ne-eqb}
 use lib.Dec.{ltb, eqb}
-use lib.ListN.{length, length-append}
+use lib.ListN.{length, length-append, getD}
 use Rattle.laws.proofs.Decisions.{lt-or}
 use Rattle.terms.specs.Refusals.{numberOf}
 use Rattle.terms.specs.declared.Verdict.{Verdict}
 use Rattle.terms.specs.declared.Verdict.the-variants.{Accepted, Refused}
+use Rattle.number.specs.declared.Edition.the-variants.{Second, First}
+use Rattle.number.specs.declared.Edition.{Edition}
 use Rattle.ties.specs.Operations.{opAt, size}
 use Rattle.terms.specs.declared.Mark.{Mark}
 use Rattle.terms.specs.declared.Mark.the-variants.{Read, Write}
@@ -91,10 +93,13 @@ first-fits (Refused r) events place =
 transaction-fits : (r : Judgement) (t : ℕ) → length (transactionLine r t) < mostText
 transaction-fits r t = simp length-append (omega (arith, decimal-le t, phase-le (phaseOf (r .state .transactions) t)))
 
-operation-fits : (q : ℕ) (op : Operation) → length (operationLineOf q op) < mostText
-operation-fits q op =
+operation-fits : (ed : Edition) (q : ℕ) (op : Operation) (pu : ℕ) → length (operationLineOf ed q op pu) < mostText
+operation-fits First q op pu =
     simp length-append
     (omega (arith, decimal-le q, decimal-le (op .object), mark-le (op .mark), decimal-le (op .responsible), fate-le (op .fate)))
+operation-fits Second q op pu =
+    simp length-append
+    (omega (arith, decimal-le q, decimal-le (op .object), mark-le (op .mark), decimal-le (op .responsible), fate-le (op .fate), decimal-le pu))
 
 saga-fits : (r : Judgement) (i : ℕ) → length (sagaLine r i) < mostText
 saga-fits r i =
@@ -111,7 +116,7 @@ line-fits r k =
     either-fits (eqb k 0) _ _ (first-fits (r .answer) (r .events) (r .place))
     (either-fits (ltb (k - 1) (transactionCount (r .tables))) _ _ (transaction-fits r (k - 1))
     (either-fits (ltb (k - 1 - transactionCount (r .tables)) (size (r .state .ops))) _ _
-    (operation-fits (k - 1 - transactionCount (r .tables)) (opAt (r .state .ops) (k - 1 - transactionCount (r .tables))))
+    (operation-fits (r .edition) (k - 1 - transactionCount (r .tables)) (opAt (r .state .ops) (k - 1 - transactionCount (r .tables))) (getD (r .records) (k - 1 - transactionCount (r .tables)) 0))
     (saga-fits r (k - 1 - transactionCount (r .tables) - size (r .state .ops)))))
 
 -- so a text that was made for a line is the line

@@ -5,5 +5,5 @@ use Rattle.listing.specs.Promises.{ListingsFit}
 use Rattle.listing.proofs.SizeLaws.{listing-short, none-short, nos-of-book}
 
 pub listings-fit : ListingsFit
-listings-fit circles cap s =
-    record { read-on = listing-short _ _ (nos-of-book circles cap s); to-first-refusal = listing-short _ [] (none-short refl) }
+listings-fit circles ed s =
+    record { read-on = listing-short _ _ (nos-of-book circles ed s); to-first-refusal = listing-short _ [] (none-short refl) }

@@ -8,6 +8,7 @@ use Rattle.laws.proofs.Decisions.{lt-or}
 use Rattle.terms.specs.Limits.{mostBytes}
 use Rattle.terms.specs.Refusals.{numberOf}
 use Rattle.terms.proofs.RefusalLaws.{number-most}
+use Rattle.number.specs.declared.Edition.{Edition}
 use Rattle.items.specs.Items.{itemsAfter}
 use Rattle.items.specs.declared.Item.{Item}
 use Rattle.tables.specs.Reading.{tablesBy}
@@ -65,22 +66,22 @@ pub none-short : {l : List No} → l ≡ [] → length (noLines l) ≤ mostNoByt
 unfolding noLines
 none-short e = rw e (omega arith)
 
-module _ (circles : Circles) (cap : ℕ) (s : List ℕ) where
-  by-answer : length s ≤ mostBytes → (a : TablesAnswer) → tablesBy circles cap s .answer ≡ a → length (noLines (refusedBy circles cap s)) ≤ mostNoBytes
+module _ (circles : Circles) (ed : Edition) (s : List ℕ) where
+  by-answer : length s ≤ mostBytes → (a : TablesAnswer) → tablesBy circles ed s .answer ≡ a → length (noLines (refusedBy circles ed s)) ≤ mostNoBytes
   by-answer short (Read at) e =
-      let few = few-items cap s at in
-      subst (λ (l : List No). length (noLines l) ≤ mostNoBytes) (refused-there circles cap s short (tablesBy circles cap s) refl at e)
-      (omega (arith, nos-short (tablesBy circles cap s .tables) (itemsAfter cap s at) emptyState 0 (omega arith)))
-  by-answer short (Refused r p) e = none-short (refused-none circles cap s short (tablesBy circles cap s) refl r p e)
+      let few = few-items ed s at in
+      subst (λ (l : List No). length (noLines l) ≤ mostNoBytes) (refused-there circles ed s short (tablesBy circles ed s) refl at e)
+      (omega (arith, nos-short (tablesBy circles ed s .tables) (itemsAfter ed s at) emptyState 0 (omega arith)))
+  by-answer short (Refused r p) e = none-short (refused-none circles ed s short (tablesBy circles ed s) refl r p e)
 
-  pub nos-of-book : length (noLines (refusedBy circles cap s)) ≤ mostNoBytes
+  pub nos-of-book : length (noLines (refusedBy circles ed s)) ≤ mostNoBytes
   nos-of-book =
-      lt-or mostBytes (length s) (λ long. none-short (long-refused circles cap s long))
-      (λ short. by-answer short (tablesBy circles cap s .answer) refl)
+      lt-or mostBytes (length s) (λ long. none-short (long-refused circles ed s long))
+      (λ short. by-answer short (tablesBy circles ed s .answer) refl)
 
 -- ---- the others
 
-lines-short : (r : Judgement) (k n : ℕ) → length (linesFrom r k n) ≤ 95 * n
+lines-short : (r : Judgement) (k n : ℕ) → length (linesFrom r k n) ≤ 103 * n
 unfolding linesFrom
 lines-short r k zero = omega arith
 lines-short r k (suc n) =

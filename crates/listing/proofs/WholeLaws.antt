@@ -7,8 +7,8 @@ use lib.ListN.{length, take, drop}
 use lib.Seq.{take-all}
 use Rattle.laws.proofs.Decisions.{lt-or}
 use Rattle.terms.specs.Limits.{mostBytes}
-use Rattle.number.specs.Number.{ceiling1}
-use Rattle.tables.specs.Reading.{tablesBy}
+use Rattle.number.specs.declared.Edition.{Edition}
+use Rattle.tables.specs.Reading.{tablesBy, editionOf}
 use Rattle.tables.specs.declared.Circles.{Circles}
 use Rattle.tables.specs.declared.TablesAnswer.{TablesAnswer}
 use Rattle.tables.specs.declared.TablesAnswer.the-variants.{Read, Refused}
@@ -27,32 +27,32 @@ use Rattle.listing.proofs.TextLaws.{put-done}
 -- ---- which refused events are listed: as many as the judgement counts
 
 abbrev pub listed : Judgement → Circles → List ℕ → List No
-listed r circles s = take (r .refused) (refusedBy circles ceiling1 s)
+listed r circles s = take (r .refused) (refusedBy circles (editionOf s) s)
 
 pub listed-short : (r : Judgement) (circles : Circles) (s : List ℕ) → length (listingOf r (listed r circles s)) ≤ mostListing
 listed-short r circles s =
-    let all = refusedBy circles ceiling1 s in
-    listing-short r (listed r circles s) (omega (arith, firsts-short (r .refused) all, nos-of-book circles ceiling1 s))
+    let all = refusedBy circles (editionOf s) s in
+    listing-short r (listed r circles s) (omega (arith, firsts-short (r .refused) all, nos-of-book circles (editionOf s) s))
 
 -- the judgement of a book counts them all
-module _ (circles : Circles) (cap : ℕ) (s : List ℕ) where
-  counted : length s ≤ mostBytes → (a : TablesAnswer) → tablesBy circles cap s .answer ≡ a → length (refusedBy circles cap s) ≡ judgementBy circles cap s .refused
+module _ (circles : Circles) (ed : Edition) (s : List ℕ) where
+  counted : length s ≤ mostBytes → (a : TablesAnswer) → tablesBy circles ed s .answer ≡ a → length (refusedBy circles ed s) ≡ judgementBy circles ed s .refused
   unfolding judgementOn
   counted short (Read at) e =
-      let t = tablesBy circles cap s in
-      sym (ap length (refused-there circles cap s short t refl at e)) ∙ ap (λ (r : Judgement). r .refused) (told-read circles cap s short t refl at e)
+      let t = tablesBy circles ed s in
+      sym (ap length (refused-there circles ed s short t refl at e)) ∙ ap (λ (r : Judgement). r .refused) (told-read circles ed s short t refl at e)
   counted short (Refused r p) e =
-      let t = tablesBy circles cap s in
-      ap length (refused-none circles cap s short t refl r p e) ∙ ap (λ (r : Judgement). r .refused) (told-refused circles cap s short t refl r p e)
+      let t = tablesBy circles ed s in
+      ap length (refused-none circles ed s short t refl r p e) ∙ ap (λ (r : Judgement). r .refused) (told-refused circles ed s short t refl r p e)
 
-  all-counted : length (refusedBy circles cap s) ≡ judgementBy circles cap s .refused
+  all-counted : length (refusedBy circles ed s) ≡ judgementBy circles ed s .refused
   all-counted =
       lt-or mostBytes (length s)
-      (λ long. ap length (long-refused circles cap s long) ∙ ap (λ (r : Judgement). r .refused) (long-read circles cap s long))
-      (λ short. counted short (tablesBy circles cap s .answer) refl)
+      (λ long. ap length (long-refused circles ed s long) ∙ ap (λ (r : Judgement). r .refused) (long-read circles ed s long))
+      (λ short. counted short (tablesBy circles ed s .answer) refl)
 
-  pub all-listed : take (judgementBy circles cap s .refused) (refusedBy circles cap s) ≡ refusedBy circles cap s
-  all-listed = take-all (judgementBy circles cap s .refused) (refusedBy circles cap s) (omega (arith, all-counted))
+  pub all-listed : take (judgementBy circles ed s .refused) (refusedBy circles ed s) ≡ refusedBy circles ed s
+  all-listed = take-all (judgementBy circles ed s .refused) (refusedBy circles ed s) (omega (arith, all-counted))
 
 -- ---- into a room
 

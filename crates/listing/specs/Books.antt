@@ -7,6 +7,7 @@ use mathlib.Core.List.{List}
 use lib.ListN.{length}
 use Rattle.terms.specs.Limits.{mostBytes}
 use Rattle.terms.specs.declared.Event.{Event}
+use Rattle.number.specs.declared.Edition.{Edition}
 use Rattle.items.specs.Items.{itemsAfter}
 use Rattle.tables.specs.Reading.{tablesBy}
 use Rattle.tables.specs.Sorts.{firstOf, stepsOf}
@@ -38,11 +39,11 @@ pub record SagaThere (tables : Tables) (es : List Event) (s : State) (i : ℕ) :
       → Closes tables i s (run tables s others)
 
 -- each saga of a book whose tables are accepted, in both ways
-pub record SagasOfBook (circles : Circles) (cap : ℕ) (s : List ℕ) (at i : ℕ) : Type 0 where
-  pub read-on : SagaThere (tablesBy circles cap s .tables) (eventsIn (itemsAfter cap s at)) (judgementBy circles cap s .state) i
-  pub to-first-refusal : SagaThere (tablesBy circles cap s .tables) (eventsOf circles cap s at) (readingBy circles cap s .state) i
+pub record SagasOfBook (circles : Circles) (ed : Edition) (s : List ℕ) (at i : ℕ) : Type 0 where
+  pub read-on : SagaThere (tablesBy circles ed s .tables) (eventsIn (itemsAfter ed s at)) (judgementBy circles ed s .state) i
+  pub to-first-refusal : SagaThere (tablesBy circles ed s .tables) (eventsOf circles ed s at) (readingBy circles ed s .state) i
 
 abbrev pub Demand3Books : Type 0
 Demand3Books =
-    (circles : Circles) (cap : ℕ) (s : List ℕ) (at : ℕ) → length s ≤ mostBytes → tablesBy circles cap s .answer ≡ Read at
-    → (i : ℕ) → i < tablesBy circles cap s .tables .sagas → SagasOfBook circles cap s at i
+    (circles : Circles) (ed : Edition) (s : List ℕ) (at : ℕ) → length s ≤ mostBytes → tablesBy circles ed s .answer ≡ Read at
+    → (i : ℕ) → i < tablesBy circles ed s .tables .sagas → SagasOfBook circles ed s at i

@@ -1,15 +1,17 @@
 -- The listing (docs/RULES.md, 7 The listing): "Line 1: events accepted; or `book refused`, number, events, place. `t`: number, state. `op`: number,
--- object, mark, responsible, state. `saga`: index, outstanding, closing step and its transaction, or `none`. The kinds of line come in this order,
+-- object, mark, responsible, state, and in edition 2 the pupil record. `saga`: index, outstanding, closing step and its transaction, or `none`. The kinds of line come in this order,
 -- each by rising number. If the tables are refused only line 1 is printed." Refused tables are empty, so that no other line is left then.
 use Prim.Native.Nat.{ℕ, zero, suc, _+_, _-_, _≤_}
 use mathlib.Core.Path.{_≡_}
 use mathlib.Core.Bool.{cond}
 use mathlib.Core.List.{List, [], _∷_, _++_}
 use lib.Dec.{ltb, leb, eqb}
-use lib.ListN.{take}
+use lib.ListN.{getD, take}
 use Rattle.terms.specs.Refusals.{numberOf}
 use Rattle.terms.specs.declared.Verdict.{Verdict}
 use Rattle.terms.specs.declared.Verdict.the-variants.{Accepted, Refused}
+use Rattle.number.specs.declared.Edition.{Edition}
+use Rattle.number.specs.declared.Edition.the-variants.{First, Second}
 use Rattle.ties.specs.Operations.{opAt, size}
 use Rattle.terms.specs.declared.Mark.{Mark}
 use Rattle.terms.specs.declared.Mark.the-variants.{Read, Write}
@@ -24,13 +26,9 @@ use Rattle.closing.specs.Closing.{outstanding, closing}
 use Rattle.closing.specs.declared.NextStep.{NextStep}
 use Rattle.closing.specs.declared.NextStep.the-variants.{NoStep, ToBegin, ToCommit, ToAbort}
 use Rattle.tables.specs.declared.Circles.{Circles}
-use Rattle.tables.specs.declared.Tables.{Tables}
-use Rattle.rules.specs.declared.State.{State}
-use Rattle.walk.specs.declared.Cursor.{Cursor}
-use Rattle.onward.specs.Onward.{judgementBy, refusedAfter, refusedBy}
+use Rattle.onward.specs.Onward.{judgementBy, refusedBy}
 use Rattle.onward.specs.declared.Judgement.{Judgement}
 use Rattle.onward.specs.declared.No.{No}
-use Rattle.listing.specs.declared.Piece.{Piece}
 use Rattle.listing.specs.declared.Placed.{Placed}
 use Rattle.listing.specs.declared.Placed.the-variants.{Wrote, NoRoom, NoLine}
 use Rattle.listing.specs.declared.Put.{Put}
@@ -55,6 +53,11 @@ abbrev pub markWord : Mark → List ℕ
 markWord Read = readWord
 markWord Write = writeWord
 
+-- "In edition 2 the `op` line ends with it"
+abbrev pub recordWords : Edition → ℕ → List ℕ
+recordWords First pu = []
+recordWords Second pu = blank ++ decimal pu
+
 abbrev pub stepWords : NextStep → List ℕ
 stepWords NoStep = noneWord
 stepWords (ToBegin t) = beginWord ++ decimal t
@@ -70,13 +73,13 @@ firstLineBy (Refused r) events place = bookRefused ++ (decimal (numberOf r) ++ (
 abbrev pub transactionLine : Judgement → ℕ → List ℕ
 transactionLine r t = transactionWord ++ (decimal t ++ (blank ++ (phaseWord (phaseOf (r .state .transactions) t) ++ lineFeed)))
 
-abbrev pub operationLineOf : ℕ → Operation → List ℕ
-operationLineOf q op =
+abbrev pub operationLineOf : Edition → ℕ → Operation → ℕ → List ℕ
+operationLineOf ed q op pu =
     operationWord
-    ++ (decimal q ++ (blank ++ (decimal (op .object) ++ (blank ++ (markWord (op .mark) ++ (blank ++ (decimal (op .responsible) ++ (blank ++ (fateWord (op .fate) ++ lineFeed)))))))))
+    ++ (decimal q ++ (blank ++ (decimal (op .object) ++ (blank ++ (markWord (op .mark) ++ (blank ++ (decimal (op .responsible) ++ (blank ++ (fateWord (op .fate) ++ (recordWords ed pu ++ lineFeed))))))))))
 
 abbrev pub operationLine : Judgement → ℕ → List ℕ
-operationLine r q = operationLineOf q (opAt (r .state .ops) q)
+operationLine r q = operationLineOf (r .edition) q (opAt (r .state .ops) q) (getD (r .records) q 0)
 
 abbrev pub sagaLine : Judgement → ℕ → List ℕ
 sagaLine r i =
@@ -118,19 +121,12 @@ unfoldable pub listingOf : Judgement → List No → List ℕ
 listingOf r refused = lineOf r 0 ++ (noLines refused ++ linesFrom r 1 (lineCount r - 1))
 
 -- of a book, read on past its refused events
-abbrev pub listingBy : Circles → ℕ → List ℕ → List ℕ
-listingBy circles cap s = listingOf (judgementBy circles cap s) (refusedBy circles cap s)
+abbrev pub listingBy : Circles → Edition → List ℕ → List ℕ
+listingBy circles ed s = listingOf (judgementBy circles ed s) (refusedBy circles ed s)
 
--- no listing is longer: the `no` lines of at most 32,768 events have at most 12 bytes each, and at most 337 other lines at most 95 bytes each
+-- no listing is longer: the `no` lines of at most 32,768 events have at most 12 bytes each, and at most 337 other lines at most 103 bytes each
 abbrev pub mostListing : ℕ
-mostListing = 425231
-
--- ---- the lines of refused events as they come in a second pass: a piece of them at the front of a room, and those that are still to come behind it
-
-pub record PutRefused (tables : Tables) (cap : ℕ) (s : List ℕ) (before : State) (c : Cursor) (piece : Piece) (after : State) (room : List ℕ) : Type 0 where
-  pub bytes : noLines (refusedAfter tables cap s before c)
-      ≡ take (piece .bytes) room ++ noLines (cond (piece .done) [] (refusedAfter tables cap s after (piece .cursor)))
-  pub cursor : piece .cursor .index ≤ piece .cursor .place
+mostListing = 427927
 
 -- ---- into a lent room: the line at its front and the rest as it was; or nothing is touched
 

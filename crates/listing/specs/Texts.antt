@@ -10,7 +10,7 @@ use Rattle.listing.specs.declared.Text.{Text}
 
 -- enough for every line
 abbrev pub mostText : ℕ
-mostText = 96
+mostText = 104
 
 -- the bytes of a text
 abbrev pub textOf : Text → List ℕ

@@ -13,9 +13,8 @@ use Rattle.terms.specs.Limits.{mostBytes}
 use Rattle.terms.specs.declared.Event.{Event}
 use Rattle.terms.specs.declared.Event.the-variants.{Abort, Begin, Commit}
 use Rattle.terms.specs.declared.Verdict.the-variants.{Accepted}
-use Rattle.number.specs.Number.{ceiling1}
 use Rattle.tables.specs.Counts.{sagaCount}
-use Rattle.tables.specs.Reading.{tablesBy}
+use Rattle.tables.specs.Reading.{tablesBy, editionOf}
 use Rattle.tables.specs.Sorts.{firstOf, stepsOf}
 use Rattle.tables.specs.declared.Circles.the-variants.{Forbidden}
 use Rattle.tables.specs.declared.Tables.{Tables}
@@ -245,18 +244,18 @@ module _ (tables : Tables) (es : List Event) (i : ℕ) (demand : Demand tables i
 
 -- ---- of books
 
-next-read : (s : List ℕ) (at : ℕ) → length s ≤ mostBytes → tablesBy Forbidden ceiling1 s .answer ≡ Read at
-    → (i : ℕ) → isListed (judgementOf ceiling1 s .tables) i ≡ true → NextThing (judgementOf ceiling1 s .tables) (judgementOf ceiling1 s .state) i
+next-read : (s : List ℕ) (at : ℕ) → length s ≤ mostBytes → tablesBy Forbidden (editionOf s) s .answer ≡ Read at
+    → (i : ℕ) → isListed (judgementOf s .tables) i ≡ true → NextThing (judgementOf s .tables) (judgementOf s .state) i
 unfolding judgementOn
 next-read s at small read i listed =
-    let r = reading-on-holds .reads Forbidden ceiling1 s at small read .judgement in
-    let T = tablesBy Forbidden ceiling1 s .tables in
-    let es = eventsIn (itemsAfter ceiling1 s at) in
+    let r = reading-on-holds .reads Forbidden (editionOf s) s at small read .judgement in
+    let T = tablesBy Forbidden (editionOf s) s .tables in
+    let es = eventsIn (itemsAfter (editionOf s) s at) in
     let tables = ap (λ (x : Judgement). x .tables) r in
     let state = ap (λ (x : Judgement). x .state) r in
     let there : i < sagaCount T = ltb-true i (sagaCount T) (sym (ap (λ (t : Tables). isListed t i) tables) ∙ listed) in
-    subst⁻¹ (λ (t : Tables). NextThing t (judgementOf ceiling1 s .state) i) tables
-    (subst⁻¹ (λ (x : State). NextThing T x i) state (next-reached T es i (demand3-read Forbidden ceiling1 s at read i (omega arith))))
+    subst⁻¹ (λ (t : Tables). NextThing t (judgementOf s .state) i) tables
+    (subst⁻¹ (λ (x : State). NextThing T x i) state (next-reached T es i (demand3-read Forbidden (editionOf s) s at read i (omega arith))))
 
 pub move-promises : MovePromises
 move-promises = record { words = words; next = next-read; said = said-holds }

@@ -10,8 +10,7 @@ use Rattle.terms.specs.Limits.{mostBytes}
 use Rattle.terms.specs.declared.Event.{Event}
 use Rattle.terms.specs.declared.Refusal.{Refusal}
 use Rattle.terms.specs.declared.Verdict.the-variants.{Accepted, Refused}
-use Rattle.number.specs.Number.{ceiling1}
-use Rattle.tables.specs.Reading.{tablesBy}
+use Rattle.tables.specs.Reading.{tablesBy, editionOf}
 use Rattle.tables.specs.declared.Circles.the-variants.{Forbidden}
 use Rattle.tables.specs.declared.Tables.{Tables}
 use Rattle.tables.specs.declared.TablesAnswer.the-variants.{Read}
@@ -78,7 +77,7 @@ pub record MovePromises : Type 0 where
   -- of any state
   pub words : (tables : Tables) (s : State) (i : ℕ) → Words tables s i
   -- of every book whose tables are accepted, and every saga in it
-  pub next : (s : List ℕ) (at : ℕ) → length s ≤ mostBytes → tablesBy Forbidden ceiling1 s .answer ≡ Read at
-      → (i : ℕ) → isListed (judgementOf ceiling1 s .tables) i ≡ true → NextThing (judgementOf ceiling1 s .tables) (judgementOf ceiling1 s .state) i
+  pub next : (s : List ℕ) (at : ℕ) → length s ≤ mostBytes → tablesBy Forbidden (editionOf s) s .answer ≡ Read at
+      → (i : ℕ) → isListed (judgementOf s .tables) i ≡ true → NextThing (judgementOf s .tables) (judgementOf s .state) i
   -- of any plan and any judgement
   pub said : (names ends steps lists : List ℕ) (r : Judgement) → Said names ends steps lists r

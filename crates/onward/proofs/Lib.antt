@@ -8,3 +8,4 @@ pub mod ReadingOnHolds
 pub mod RoomLaws
 pub mod ListLaws
 pub mod ItemCountLaws
+pub mod RecordsIgnoredHolds

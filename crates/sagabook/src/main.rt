@@ -5,17 +5,11 @@ use input::Filled;
 use libc::STDERR_FILENO;
 use libc::STDIN_FILENO;
 use libc::STDOUT_FILENO;
-use listing::Placed;
+use listing::Listing;
 use listing::Put;
 use listing::Text;
-use number::Number;
 use onward::Judgement;
-use sheet::Sheet;
 use tables::Circles;
-use tables::TablesAnswer;
-use terms::Book;
-use ties::Operation;
-use walk::Cursor;
 
 // What can be told of a book: its listing, that of a book whose tables may wait in a circle, its listing to the first refusal, or the order to replay in.
 enum Wish {
@@ -59,89 +53,22 @@ fn asked_for() -> Asked {
     wish_of(&word[..n])
 }
 
-// Writes line k, but for those of refused events; whether all of it was taken.
-fn print_line(judgement: Judgement, k: usize) -> bool {
-    let mut room = [0u8; Text::MOST];
-    let placed = listing::put_line(judgement, k, &mut room);
-    let Placed::Wrote(n) = placed else {
+// Puts the listing of a book that was judged so into a room and writes it; whether all of it was taken.
+fn print_from(book: &[u8], circles: Circles, judgement: Judgement, room: &mut [u8]) -> bool {
+    let put = listing::put_whole(judgement, book, circles, room);
+    let Put::Wrote(n) = put else {
         return false;
     };
+    if room.len() < n {
+        return false;
+    }
     io::write_all(STDOUT_FILENO, &room[..n])
 }
 
-// Writes the lines of refused events from the first event on, a piece at a time; whether all were taken. A piece has at least one of them.
-fn print_pieces(book: &[u8], sheet: &[u32; Sheet::NUMBERS], start: usize, refused: usize) -> bool {
-    let mut transactions = [0u32; Book::TRANSACTIONS];
-    let mut ops = [0u32; Operation::MOST];
-    let mut room = [0u8; 4096];
-    let mut cursor = Cursor {
-        place: start,
-        index: 0,
-        count: 0,
-    };
-    let mut left = refused;
-    while 0 < left {
-        let piece = listing::put_refused(
-            book,
-            Number::MOST,
-            sheet,
-            &mut transactions,
-            &mut ops,
-            cursor,
-            &mut room,
-        );
-        let n = piece.bytes;
-        if !io::write_all(STDOUT_FILENO, &room[..n]) {
-            return false;
-        }
-        if piece.done {
-            return true;
-        }
-        cursor = piece.cursor;
-        left -= 1;
-    }
-    true
-}
-
-// Writes the lines of so many refused events, which a second pass over the book makes; whether all were taken.
-fn print_refused(book: &[u8], circles: Circles, refused: usize) -> bool {
-    if refused == 0 {
-        return true;
-    }
-    let read = tables::read_tables(book, Number::MOST, circles);
-    let answer = read.answer;
-    let tables = read.tables;
-    match answer {
-        TablesAnswer::Read(start) => {
-            let sheet = sheet::sheet_of(tables);
-            print_pieces(book, &sheet, start, refused)
-        }
-        TablesAnswer::Refused(_, _) => true,
-    }
-}
-
-// Writes the lines behind those of refused events; whether all were taken.
-fn print_later(judgement: Judgement) -> bool {
-    let lines = listing::line_count(judgement);
-    let mut k: usize = 1;
-    while k < lines {
-        if !print_line(judgement, k) {
-            return false;
-        }
-        k += 1;
-    }
-    true
-}
-
-// Writes the listing of a book that was judged so, and stops at a line that is not taken whole; whether all were.
+// Writes the listing of a book that was judged so, from a room that holds every listing; whether all of it was taken.
 fn print_listing(book: &[u8], circles: Circles, judgement: Judgement) -> bool {
-    if !print_line(judgement, 0) {
-        return false;
-    }
-    if !print_refused(book, circles, judgement.refused) {
-        return false;
-    }
-    print_later(judgement)
+    let mut room = [0u8; Listing::MOST];
+    print_from(book, circles, judgement, &mut room)
 }
 
 // Writes a number on a line of its own; whether all of it was taken.

@@ -9,7 +9,6 @@ use lib.ListN.{length, take, length-take, drop-of-length-le}
 use Rattle.laws.proofs.Bools.{bool-cases}
 use Rattle.terms.specs.Refusals.{verdictNumber}
 use Rattle.terms.specs.declared.Refusal.{Refusal}
-use Rattle.number.specs.Number.{ceiling1}
 use Rattle.packing.specs.Fields.{encodes, fieldsBefore}
 use Rattle.closing.specs.Closing.{outstanding, closing}
 use Rattle.closing.specs.declared.NextStep.{NextStep}
@@ -20,10 +19,10 @@ use Rattle.book.specs.declared.Reading.{Reading}
 use Rattle.book.specs.declared.Outcome.{Outcome}
 use Rattle.book.specs.declared.Outcome.the-variants.{Wrote, Refuses}
 use Rattle.book.proofs.PackingLaws.{wrote-all}
+use Rattle.tables.specs.Reading.{editionOf}
 use Rattle.tables.specs.declared.Circles.{Circles}
 use Rattle.tables.specs.declared.Circles.the-variants.{Forbidden, Permitted}
-use Rattle.book.specs.Reading.{readingBy}
-use Rattle.onward.specs.Onward.{fitting, flat, judgementBy, judgementTo, listedIn, refusedBy}
+use Rattle.onward.specs.Onward.{fitting, flat, judgementBy, judgementUpTo, listedIn, refusedBy}
 use Rattle.onward.specs.declared.Judgement.{Judgement}
 use Rattle.onward.specs.declared.No.{No}
 use Rattle.listing.specs.Lines.{listingBy, listingOf}
@@ -63,35 +62,36 @@ none-refused way s to skip list =
 module _ (way : ℕ) (s : List ℕ) (circles : Circles) (c : circles ≡ circlesIn way) where
   -- on past refused events
   module _ (on : readsOn way ≡ true) where
-    pub judged-on : judgementBy circles ceiling1 s ≡ judged way s
+    pub judged-on : judgementBy circles (editionOf s) s ≡ judged way s
     unfolding judged
     judged-on = rw (on, c)
 
-    pub refused-on : refusedBy circles ceiling1 s ≡ refusedIn way s
+    pub refused-on : refusedBy circles (editionOf s) s ≡ refusedIn way s
     unfolding refusedIn
     refused-on = rw (on, c)
 
-    listing-on : listingBy circles ceiling1 s ≡ listingIn way s
+    listing-on : listingBy circles (editionOf s) s ≡ listingIn way s
     unfolding listingIn
     listing-on = ap₂ listingOf judged-on refused-on
 
   -- to the first refusal
   module _ (to : readsOn way ≡ false) where
-    pub judged-to : judgementTo (readingBy circles ceiling1 s) ≡ judged way s
+    pub judged-to : judgementUpTo circles s ≡ judged way s
     unfolding judged
     judged-to = rw (to, c)
 
-    listing-to : listingOf (judgementTo (readingBy circles ceiling1 s)) [] ≡ listingIn way s
+    listing-to : listingOf (judgementUpTo circles s) [] ≡ listingIn way s
     unfolding listingIn
     listing-to = ap₂ listingOf judged-to (sym (refused-to way s to))
 
   -- the listing lists as many refused events as the judgement counts
   pub listing-told : listingOf (judged way s) (listed (judged way s) circles s) ≡ listingIn way s
+  unfolding judgementUpTo
   listing-told =
       bool-cases (readsOn way)
       (λ on.
       ap (λ (r : Judgement). listingOf r (listed r circles s)) (sym (judged-on on))
-      ∙ ap (listingOf (judgementBy circles ceiling1 s)) (all-listed circles ceiling1 s) ∙ listing-on on)
+      ∙ ap (listingOf (judgementBy circles (editionOf s) s)) (all-listed circles (editionOf s) s) ∙ listing-on on)
       (λ to. ap (λ (r : Judgement). listingOf r (listed r circles s)) (sym (judged-to to)) ∙ listing-to to)
 
 module _ (way : ℕ) (s : List ℕ) (r : Judgement) (read : r ≡ judged way s) where
@@ -117,21 +117,21 @@ module _ (way : ℕ) (s : List ℕ) (r : Judgement) (read : r ≡ judged way s) 
 -- ---- unpacking
 
 module _ (s : List ℕ) (r : Reading) (read : r ≡ reading s) where
-  pub unpack-is : (room : List ℕ) (o : Outcome) → o ≡ unpackOutcome ceiling1 s room → (l : List ℕ) → l ≡ outcomeNumbers (r .events) o
+  pub unpack-is : (room : List ℕ) (o : Outcome) → o ≡ unpackOutcome s room → (l : List ℕ) → l ≡ outcomeNumbers (r .events) o
       → l ≡ unpackNumbers s room
   unfolding unpackNumbers
   unpack-is room o q l e = rw (e, q, read)
 
 -- ---- writing
 
-module _ (fs room : List ℕ) (o : Outcome) (told : o ≡ writeOutcome ceiling1 fs room) where
+module _ (fs room : List ℕ) (o : Outcome) (told : o ≡ writeOutcome fs room) where
   -- a refusal says by itself how many events it came after
   pub refused-is : (r : Refusal) (before place : ℕ) → o ≡ Refuses r before place → (events : ℕ) (l : List ℕ) → l ≡ outcomeNumbers events o
       → l ≡ writeNumbers fs room
   unfolding writeNumbers
   refused-is r before place q events l e = rw (e, q, sym told ∙ q)
 
-  module _ (n : ℕ) (q : o ≡ Wrote n) (after : List ℕ) (left : after ≡ writtenRoom ceiling1 fs room) where
+  module _ (n : ℕ) (q : o ≡ Wrote n) (after : List ℕ) (left : after ≡ writtenRoom fs room) where
     -- what was written is the whole book, at the front of the room
     wrote : (n ≡ length (encodes fs)) × (take n after ≡ encodes fs)
     unfolding writeOutcome writtenRoom

@@ -6,7 +6,6 @@ use mathlib.Core.List.{List, [], _∷_}
 use lib.Dec.{eqb, ltb}
 use Rattle.terms.specs.Refusals.{numberOf, verdictNumber}
 use Rattle.terms.specs.declared.Refusal.the-variants.{NoRoom}
-use Rattle.number.specs.Number.{ceiling1}
 use Rattle.packing.specs.Fields.{encodes}
 use Rattle.closing.specs.Closing.{outstanding, closing}
 use Rattle.closing.specs.declared.NextStep.{NextStep}
@@ -14,14 +13,15 @@ use Rattle.closing.specs.declared.NextStep.the-variants.{NoStep, ToBegin, ToCom
 use Rattle.replay.specs.Replay.{orderOf, copyAnswer}
 use Rattle.replay.specs.declared.Copied.{Copied}
 use Rattle.replay.specs.declared.Copied.the-variants.{Wrote as WroteOrder, NoRoom as NoRoomForOrder}
+use Rattle.tables.specs.Reading.{editionOf}
 use Rattle.tables.specs.declared.Circles.{Circles}
 use Rattle.tables.specs.declared.Circles.the-variants.{Forbidden, Permitted}
-use Rattle.book.specs.Reading.{readingBy, readingOf}
+use Rattle.book.specs.Reading.{readingOf}
 use Rattle.book.specs.Packing.{unpackOutcome, writeOutcome}
 use Rattle.book.specs.declared.Reading.{Reading}
 use Rattle.book.specs.declared.Outcome.{Outcome}
 use Rattle.book.specs.declared.Outcome.the-variants.{Wrote, Refuses}
-use Rattle.onward.specs.Onward.{judgementBy, judgementTo, refusedBy}
+use Rattle.onward.specs.Onward.{judgementBy, judgementUpTo, refusedBy}
 use Rattle.onward.specs.declared.Judgement.{Judgement}
 use Rattle.onward.specs.declared.No.{No}
 use Rattle.listing.specs.Lines.{listingOf}
@@ -31,7 +31,7 @@ use Rattle.listing.specs.declared.Put.the-variants.{Wrote as WroteListing, NoRo
 
 -- reading in the old way, to the first refusal, as unpacking, writing and the accepted opening go by it
 abbrev pub reading : List ℕ → Reading
-reading s = readingOf ceiling1 s
+reading s = readingOf s
 
 -- ---- the ways of reading, by number: on past refused events (0), to the first refusal (1), and each of these with circles in the tables permitted (2, 3); of a larger
 -- number what is left of it by fours
@@ -43,11 +43,11 @@ abbrev pub circlesIn : ℕ → Circles
 circlesIn way = cond (ltb (way % 4) 2) Forbidden Permitted
 
 unfoldable pub judged : ℕ → List ℕ → Judgement
-judged way s = cond (readsOn way) (judgementBy (circlesIn way) ceiling1 s) (judgementTo (readingBy (circlesIn way) ceiling1 s))
+judged way s = cond (readsOn way) (judgementBy (circlesIn way) (editionOf s) s) (judgementUpTo (circlesIn way) s)
 
 -- the events that are refused and passed over; a reading to the first refusal passes over none
 unfoldable pub refusedIn : ℕ → List ℕ → List No
-refusedIn way s = cond (readsOn way) (refusedBy (circlesIn way) ceiling1 s) []
+refusedIn way s = cond (readsOn way) (refusedBy (circlesIn way) (editionOf s) s) []
 
 -- ---- the four numbers of an answer: the refusal's number, 0 if there is none; the events accepted; the refusal's place; and how many bytes or
 -- fields were written, or events passed over
@@ -65,10 +65,10 @@ outcomeNumbers events (Wrote n) = four 0 events 0 n
 outcomeNumbers events (Refuses r before place) = four (numberOf r) before place 0
 
 unfoldable pub unpackNumbers : List ℕ → List ℕ → List ℕ
-unpackNumbers s room = outcomeNumbers (reading s .events) (unpackOutcome ceiling1 s room)
+unpackNumbers s room = outcomeNumbers (reading s .events) (unpackOutcome s room)
 
 unfoldable pub writeNumbers : List ℕ → List ℕ → List ℕ
-writeNumbers fs room = outcomeNumbers (reading (encodes fs) .events) (writeOutcome ceiling1 fs room)
+writeNumbers fs room = outcomeNumbers (reading (encodes fs) .events) (writeOutcome fs room)
 
 -- the listing
 unfoldable pub listingIn : ℕ → List ℕ → List ℕ

@@ -8,14 +8,12 @@
 use book::Outcome;
 use closing::NextStep;
 use listing::Put;
-use number::Number;
 use onward::Judgement;
 use replay::Copied;
 use tables::Circles;
 use terms::Refusal;
 ghost use mathlib.Core.Path.{_≡_};
 ghost use lib.ListN.{length};
-ghost use Rattle.number.specs.Number.{ceiling1};
 ghost use Rattle.left.specs.Left.{leftIn};
 ghost use Rattle.replay.specs.Replay.{copyRoom};
 ghost use Rattle.book.specs.Reading.{openingOf};
@@ -92,7 +90,7 @@ fn judged(book: &[u8], way: u64) -> Judgement
 {
     let circles = circles_in(way);
     if reads_on(way) {
-        return onward::read_by(book, Number::MOST, circles);
+        return onward::read_by(book, circles);
     }
     match circles {
         Circles::Forbidden => onward::read_to_first_refusal(book),
@@ -130,7 +128,7 @@ pub extern "C" fn saga_refused(book: &[u8], way: u64, skip: u64, list: &mut [u64
 // How many bytes of a book its accepted opening has.
 #[no_mangle]
 pub extern "C" fn saga_opening(book: &[u8]) -> u64
-    ensures { λ r. ⌜ r ≡ length (openingOf ceiling1 (now (book .entry))) ⌝ }
+    ensures { λ r. ⌜ r ≡ length (openingOf (now (book .entry))) ⌝ }
 {
     let opening = book::opening(book);
     opening.len() as u64
@@ -194,8 +192,8 @@ pub extern "C" fn saga_replay(book: &[u8], way: u64, list: &mut [u16], answer: &
 
 // Puts the fields of a book that is accepted whole at the front of a lent room.
 #[no_mangle]
-pub extern "C" fn saga_unpack(book: &[u8], room: &mut [u16], answer: &mut [u64; 4])
-    ensures { λ _. ⌜ (now (answer .exit) ≡ unpackNumbers (now (book .entry)) (now (room .entry))) × (now (room .exit) ≡ unpackedRoom ceiling1 (now (book .entry)) (now (room .entry))) ⌝ }
+pub extern "C" fn saga_unpack(book: &[u8], room: &mut [u32], answer: &mut [u64; 4])
+    ensures { λ _. ⌜ (now (answer .exit) ≡ unpackNumbers (now (book .entry)) (now (room .entry))) × (now (room .exit) ≡ unpackedRoom (now (book .entry)) (now (room .entry))) ⌝ }
 {
     let read = book::read_to_first_refusal(book);
     let events = read.events;
@@ -206,8 +204,8 @@ pub extern "C" fn saga_unpack(book: &[u8], room: &mut [u16], answer: &mut [u64; 
 
 // Puts the bytes of fields that are a book at the front of a lent room.
 #[no_mangle]
-pub extern "C" fn saga_write(fields: &[u16], room: &mut [u8], answer: &mut [u64; 4])
-    ensures { λ _. ⌜ (now (answer .exit) ≡ writeNumbers (now (fields .entry)) (now (room .entry))) × (now (room .exit) ≡ writtenRoom ceiling1 (now (fields .entry)) (now (room .entry))) ⌝ }
+pub extern "C" fn saga_write(fields: &[u32], room: &mut [u8], answer: &mut [u64; 4])
+    ensures { λ _. ⌜ (now (answer .exit) ≡ writeNumbers (now (fields .entry)) (now (room .entry))) × (now (room .exit) ≡ writtenRoom (now (fields .entry)) (now (room .entry))) ⌝ }
 {
     let outcome = book::write(fields, room);
     let Outcome::Wrote(n) = outcome else {

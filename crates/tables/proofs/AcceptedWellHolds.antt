@@ -12,6 +12,7 @@ use borrow.Author.Tests.{ne-eqb}
 use Rattle.laws.proofs.Decisions.{same-or}
 use Rattle.terms.specs.Limits.{mostSagas, mostSteps, mostTransactions, mostObjects, mostDependencies}
 use Rattle.terms.specs.declared.Refusal.the-variants.{BadCount}
+use Rattle.number.specs.Number.{ceilingOf}
 use Rattle.number.proofs.Spelling.{no-value}
 use Rattle.number.proofs.FieldLaws.{within-range, within-next}
 use Rattle.tables.specs.declared.Circles.{Circles}
@@ -232,11 +233,11 @@ module _ (cap : ℕ) (s : List ℕ) (x : ℕ) where
       (counts-read sum p m k t h (r₁ .1) (r₂ .1) (r₃ .1))))
 
 pub accepted-well : AcceptedWell
-accepted-well circles cap s x =
-    by-tables cap s circles (WellRead x)
+accepted-well circles ed s x =
+    by-tables ed s circles (WellRead x)
     (λ r p f. no-read)
     (λ v g y z sum w f₁ f₂ f₃.
-    let b = within-next cap s y 0 mostSagas BadCount g z f₂ .1 in
-    let c = sagas-next cap s g z 0 emptyTables sum w b f₃ in
-    rest-well cap s x circles w sum (sagasFrom cap s g z 0 emptyTables .tables) (c .1)
-    (sagas-read cap s g z sum w (within-range cap s y 0 mostSagas BadCount g z f₂ .1) b f₃))
+    let b = within-next (ceilingOf ed) s y 0 mostSagas BadCount g z f₂ .1 in
+    let c = sagas-next (ceilingOf ed) s g z 0 emptyTables sum w b f₃ in
+    rest-well (ceilingOf ed) s x circles w sum (sagasFrom (ceilingOf ed) s g z 0 emptyTables .tables) (c .1)
+    (sagas-read (ceilingOf ed) s g z sum w (within-range (ceilingOf ed) s y 0 mostSagas BadCount g z f₂ .1) b f₃))

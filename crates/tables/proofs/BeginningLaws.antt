@@ -4,18 +4,21 @@ use native.Mathlib.Omega.{arith}
 use mathlib.Core.Path.{_≡_, refl, sym, ap, _∙_}
 use mathlib.Core.List.{List}
 use lib.ListN.{length, take}
-use Rattle.terms.specs.Limits.{edition, mostSagas, mostSteps, mostTransactions, mostObjects, mostDependencies}
+use Rattle.terms.specs.Limits.{mostSagas, mostSteps, mostTransactions, mostObjects, mostDependencies}
 use Rattle.terms.specs.declared.Refusal.the-variants.{BadEdition, BadCount}
+use Rattle.number.specs.declared.Edition.{Edition}
 use Rattle.number.specs.declared.Field.the-variants.{Value}
+use Rattle.number.specs.Number.{ceilingOf, editionNumber}
 use Rattle.number.proofs.Beginnings.{Agrees, number-local, number-extends, within-same}
-use Rattle.number.proofs.Spelling.{no-value}
-use Rattle.number.proofs.FieldLaws.{within-next}
+use Rattle.number.proofs.Spelling.{no-value, number-same}
+use Rattle.number.proofs.EditionLaws.{ceiling-low, edition-low}
+use Rattle.number.proofs.FieldLaws.{within-in, within-next, within-range}
 use Rattle.tables.specs.declared.Circles.{Circles}
 use Rattle.tables.specs.declared.Tables.{Tables}
 use Rattle.tables.specs.declared.SagasRead.{SagasRead}
 use Rattle.tables.specs.declared.TablesAnswer.the-variants.{Read}
 use Rattle.tables.specs.declared.TablesRead.{TablesRead}
-use Rattle.tables.specs.Reading.{emptyTables, withSaga, sagasFrom, withEntry, dependenciesFrom, withCounts, unlessCircle, restFrom, tablesBy}
+use Rattle.tables.specs.Reading.{emptyTables, withSaga, sagasFrom, withEntry, dependenciesFrom, withCounts, unlessCircle, restFrom, tablesBy, editionCeiling, editionField}
 use Rattle.tables.proofs.ReadingLaws.{sagas-more, entries-more, rest4, all4}
 use Rattle.tables.proofs.WayLaws.{no-read, sagas-next, by-circle, by-saga, entry-inside, by-entry, by-rest, by-tables}
 
@@ -72,32 +75,42 @@ module _ (cap : ℕ) (s u : List ℕ) (o : ℕ) (same : Agrees cap s u o) where
           sym (rest4 circles cap u at sum t p y g₁ m z g₂ k w g₃) ∙ ap (unlessCircle circles z) (i .2) ∙ kept,
         )))
 
-    tables-same : (circles : Circles) → Same 0 (tablesBy circles cap u) (tablesBy circles cap s)
+-- the edition field too, whatever the ceiling
+module _ (ed : Edition) (s u : List ℕ) (o : ℕ) (same : Agrees (ceilingOf ed) s u o) where
+  first-same : (v next : ℕ) → editionField ed s ≡ Value v next → next ≤ o → editionField ed u ≡ Value v next
+  first-same v next f l =
+      let first = within-range editionCeiling s 0 (editionNumber ed) (editionNumber ed) BadEdition v next f in
+      let here = number-same editionCeiling (ceilingOf ed) s 0 v next (first .2) (omega (arith, first .1, edition-low ed, ceiling-low ed)) in
+      within-in editionCeiling u 0 (editionNumber ed) (editionNumber ed) BadEdition v next
+      (number-same (ceilingOf ed) editionCeiling u 0 v next (same 0 v next here l) (omega (arith, first .1, edition-low ed))) (first .0) (first .1)
+
+  module _ (x : ℕ) (before : x ≤ o) where
+    tables-same : (circles : Circles) → Same (ceilingOf ed) s u o same x before 0 (tablesBy circles ed u) (tablesBy circles ed s)
     tables-same circles =
-        by-tables cap s circles (Same 0 (tablesBy circles cap u))
+        by-tables ed s circles (Same (ceilingOf ed) s u o same x before 0 (tablesBy circles ed u))
         (λ r p f. no-read)
         (λ v g y z sum w f₁ f₂ f₃ e.
-        let l₁ = within-next cap s 0 edition edition BadEdition v y f₁ in
-        let l₂ = within-next cap s y 0 mostSagas BadCount g z f₂ in
-        let l₃ = sagas-next cap s g z 0 emptyTables sum w (l₂ .1) f₃ in
-        let i = rest-same circles w sum (sagasFrom cap s g z 0 emptyTables .tables) (l₃ .1) e in
-        let g₁ = within-same cap s u o same 0 edition edition BadEdition v y f₁ (omega (arith, i .0)) in
-        let g₂ = within-same cap s u o same y 0 mostSagas BadCount g z f₂ (omega (arith, i .0)) in
-        let g₃ = sagas-same g z 0 emptyTables sum w (l₂ .1) (omega (arith, i .0)) f₃ in (
+        let l₁ = within-next editionCeiling s 0 (editionNumber ed) (editionNumber ed) BadEdition v y f₁ in
+        let l₂ = within-next (ceilingOf ed) s y 0 mostSagas BadCount g z f₂ in
+        let l₃ = sagas-next (ceilingOf ed) s g z 0 emptyTables sum w (l₂ .1) f₃ in
+        let i = rest-same (ceilingOf ed) s u o same x before circles w sum (sagasFrom (ceilingOf ed) s g z 0 emptyTables .tables) (l₃ .1) e in
+        let g₁ = first-same v y f₁ (omega (arith, i .0)) in
+        let g₂ = within-same (ceilingOf ed) s u o same y 0 mostSagas BadCount g z f₂ (omega (arith, i .0)) in
+        let g₃ = sagas-same (ceilingOf ed) s u o same g z 0 emptyTables sum w (l₂ .1) (omega (arith, i .0)) f₃ in (
           omega arith,
           i .1,
-          sym (all4 circles cap u v y g₁ g z g₂ (sagasFrom cap s g z 0 emptyTables) (sym g₃) sum w f₃) ∙ i .2,
+          sym (all4 circles ed u v y g₁ g z g₂ (sagasFrom (ceilingOf ed) s g z 0 emptyTables) (sym g₃) sum w f₃) ∙ i .2,
         ))
 
-module _ (circles : Circles) (cap : ℕ) (s : List ℕ) where
+module _ (circles : Circles) (ed : Edition) (s : List ℕ) where
   -- the tables end within the book
-  pub tables-place : (at : ℕ) → tablesBy circles cap s .answer ≡ Read at → at ≤ length s
-  tables-place at e = tables-same cap s s at (λ x v next f h. f) at (omega arith) circles e .1
+  pub tables-place : (at : ℕ) → tablesBy circles ed s .answer ≡ Read at → at ≤ length s
+  tables-place at e = tables-same ed s s at (λ x v next f h. f) at (omega arith) circles e .1
 
   -- a beginning that holds them has the same
-  pub tables-local : (at o : ℕ) → tablesBy circles cap s .answer ≡ Read at → at ≤ o → tablesBy circles cap (take o s) ≡ tablesBy circles cap s
-  tables-local at o e h = tables-same cap s (take o s) o (λ x v next f l. number-local cap x v next s o f l) at h circles e .2
+  pub tables-local : (at o : ℕ) → tablesBy circles ed s .answer ≡ Read at → at ≤ o → tablesBy circles ed (take o s) ≡ tablesBy circles ed s
+  tables-local at o e h = tables-same ed s (take o s) o (λ x v next f l. number-local (ceilingOf ed) x v next s o f l) at h circles e .2
 
   -- and what a beginning has, the whole has
-  pub tables-extend : (at o : ℕ) → tablesBy circles cap (take o s) .answer ≡ Read at → tablesBy circles cap s ≡ tablesBy circles cap (take o s)
-  tables-extend at o e = tables-same cap (take o s) s at (λ x v next f l. number-extends cap x v next s o f) at (omega arith) circles e .2
+  pub tables-extend : (at o : ℕ) → tablesBy circles ed (take o s) .answer ≡ Read at → tablesBy circles ed s ≡ tablesBy circles ed (take o s)
+  tables-extend at o e = tables-same ed (take o s) s at (λ x v next f l. number-extends (ceilingOf ed) x v next s o f) at (omega arith) circles e .2

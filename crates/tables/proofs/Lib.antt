@@ -15,3 +15,5 @@ pub mod NeverMovesRefusedHolds
 pub mod WrittenLaws
 pub mod NumberedHolds
 pub mod EntriesInWordsHold
+pub mod EditionLaws
+pub mod EditionsTold

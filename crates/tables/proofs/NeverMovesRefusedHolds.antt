@@ -11,18 +11,20 @@ use lib.ListN.{length}
 use borrow.Author.Tests.{lt-ltb}
 use Rattle.laws.proofs.Bools.{and-on, and-rest, bool-cases, clash, on-and}
 use Rattle.laws.proofs.IndexLaws.{any-elim, any-intro}
-use Rattle.terms.specs.Limits.{edition, mostDependencies, mostObjects, mostSagas, mostSteps, mostTransactions}
+use Rattle.terms.specs.Limits.{mostDependencies, mostObjects, mostSagas, mostSteps, mostTransactions}
 use Rattle.terms.specs.declared.Refusal.{Refusal}
 use Rattle.terms.specs.declared.Refusal.the-variants.{BadCount, BadEdition, NeverMoves}
 use Rattle.sets.specs.Reach.{among, leadsTo}
 use Rattle.sets.proofs.ReachLaws.{among-on, computed-leads, leads-computed, leads-more}
-use Rattle.number.specs.Number.{numberAt, numberWithin}
-use Rattle.number.proofs.Spelling.{no-value}
+use Rattle.number.specs.declared.Edition.{Edition}
+use Rattle.number.specs.Number.{ceilingOf, editionNumber, numberAt, numberWithin}
+use Rattle.number.proofs.Spelling.{no-value, number-same}
+use Rattle.number.proofs.EditionLaws.{ceiling-low, edition-low}
 use Rattle.number.proofs.FieldLaws.{within-range, within-next}
 use Rattle.tables.specs.Accepted.{CirclesRefused, GoesRound, NeverMovesRefused, Well, countPlace, placeOfField}
 use Rattle.tables.specs.Circles.{beginLink, hasCircle}
 use Rattle.tables.specs.Dependencies.{dependencyAt}
-use Rattle.tables.specs.Reading.{dependenciesFrom, emptyTables, isRead, refused, restFrom, sagasFrom, tablesBy, unlessCircle, withCounts, withEntry, withSaga}
+use Rattle.tables.specs.Reading.{dependenciesFrom, emptyTables, isRead, refused, restFrom, sagasFrom, tablesBy, unlessCircle, withCounts, withEntry, withSaga, editionField, editionCeiling}
 use Rattle.tables.specs.declared.Circles.{Circles}
 use Rattle.tables.specs.declared.Circles.the-variants.{Forbidden, Permitted}
 use Rattle.number.specs.declared.Field.{Field}
@@ -118,9 +120,16 @@ counted-cases : {A : Type 0} (c : Field) → ((v next : ℕ) → c ≡ Value v n
 counted-cases (Value v next) f g = f v next refl
 counted-cases (Fault r p) f g = g r p refl
 
-module _ (cap : ℕ) (s : List ℕ) where
+-- the first field is the edition
+first-on : (ed : Edition) (s : List ℕ) (e x : ℕ) → editionField ed s ≡ Value e x → placeOfField (ceilingOf ed) s 1 ≡ x
+unfolding placeOfField
+first-on ed s e x f =
+    let first = within-range editionCeiling s 0 (editionNumber ed) (editionNumber ed) BadEdition e x f in
+    rw (number-same editionCeiling (ceilingOf ed) s 0 e x (first .2) (omega (arith, first .1, edition-low ed, ceiling-low ed)))
+
+module _ (ed : Edition) (s : List ℕ) where
   abbrev Tested : TablesRead → TablesRead → Type 0
-  Tested new permitted = new ≡ unlessCircle Forbidden (countPlace cap s (permitted .tables)) permitted
+  Tested new permitted = new ≡ unlessCircle Forbidden (countPlace ed s (permitted .tables)) permitted
 
   -- what was refused is refused as before
   tested-no : (r : Refusal) (p : ℕ) → Tested (refused r p) (refused r p)
@@ -128,7 +137,7 @@ module _ (cap : ℕ) (s : List ℕ) where
   tested-no r p = refl
 
   -- what was read is tested at the place y, which is the count's
-  tested-read : (y : ℕ) (read : TablesRead) → ((x : ℕ) → read .answer ≡ Read x → y ≡ countPlace cap s (read .tables))
+  tested-read : (y : ℕ) (read : TablesRead) → ((x : ℕ) → read .answer ≡ Read x → y ≡ countPlace ed s (read .tables))
       → Tested (unlessCircle Forbidden y read) (unlessCircle Permitted y read)
   unfolding unlessCircle
   tested-read y read h =
@@ -136,53 +145,50 @@ module _ (cap : ℕ) (s : List ℕ) where
       (λ x e. ap (λ (n : ℕ). unlessCircle Forbidden n read) (h x e))
       (λ r p e. rw e)
 
-  tested : Tested (tablesBy Forbidden cap s) (tablesBy Permitted cap s)
+  tested : Tested (tablesBy Forbidden ed s) (tablesBy Permitted ed s)
   unfolding tablesBy restFrom
   tested =
-      counted-cases (numberWithin cap s 0 edition edition BadEdition)
+      counted-cases (editionField ed s)
       (λ e x f₁. rw f₁
-      (counted-cases (numberWithin cap s x 0 mostSagas BadCount)
+      (counted-cases (numberWithin (ceilingOf ed) s x 0 mostSagas BadCount)
       (λ g y f₂. rw f₂
-      (counted-cases (sagasFrom cap s g y 0 emptyTables .answer)
+      (counted-cases (sagasFrom (ceilingOf ed) s g y 0 emptyTables .answer)
       (λ sum z f₃. rw f₃
-      (counted-cases (numberWithin cap s z 0 (mostTransactions - sum) BadCount)
+      (counted-cases (numberWithin (ceilingOf ed) s z 0 (mostTransactions - sum) BadCount)
       (λ p a f₄. rw f₄
-      (counted-cases (numberWithin cap s a 0 mostObjects BadCount)
+      (counted-cases (numberWithin (ceilingOf ed) s a 0 mostObjects BadCount)
       (λ m b f₅. rw f₅
-      (counted-cases (numberWithin cap s b 0 mostDependencies BadCount)
+      (counted-cases (numberWithin (ceilingOf ed) s b 0 mostDependencies BadCount)
       (λ k c f₆. rw f₆
-      (tested-read b (dependenciesFrom cap s (sum + p) k c (withCounts (sagasFrom cap s g y 0 emptyTables .tables) p m))
+      (tested-read b (dependenciesFrom (ceilingOf ed) s (sum + p) k c (withCounts (sagasFrom (ceilingOf ed) s g y 0 emptyTables .tables) p m))
       (λ w q.
-      let t = withCounts (sagasFrom cap s g y 0 emptyTables .tables) p m in
-      let first = place-on cap s 0 0 edition edition BadEdition e x start f₁ in
-      let second = place-on cap s 1 x 0 mostSagas BadCount g y first f₂ in
-      let third = place-sagas cap s g 2 y 0 emptyTables sum z (within-next cap s x 0 mostSagas BadCount g y f₂ .1) second f₃ in
-      let fourth = place-on cap s (2 + g) z 0 (mostTransactions - sum) BadCount p a (third .0) f₄ in
-      let fifth = place-on cap s (2 + g + 1) a 0 mostObjects BadCount m b fourth f₅ in
-      let kept = entries-sagas cap s w (sum + p) k c t (within-next cap s b 0 mostDependencies BadCount k c f₆ .1) q in
-      let there : 2 + g + 1 + 1 ≡ 4 + dependenciesFrom cap s (sum + p) k c t .tables .sagas = omega (arith, kept, third .1, sagas-none) in
-      sym fifth ∙ ap (placeOfField cap s) there)))
+      let t = withCounts (sagasFrom (ceilingOf ed) s g y 0 emptyTables .tables) p m in
+      let first = first-on ed s e x f₁ in
+      let second = place-on (ceilingOf ed) s 1 x 0 mostSagas BadCount g y first f₂ in
+      let third = place-sagas (ceilingOf ed) s g 2 y 0 emptyTables sum z (within-next (ceilingOf ed) s x 0 mostSagas BadCount g y f₂ .1) second f₃ in
+      let fourth = place-on (ceilingOf ed) s (2 + g) z 0 (mostTransactions - sum) BadCount p a (third .0) f₄ in
+      let fifth = place-on (ceilingOf ed) s (2 + g + 1) a 0 mostObjects BadCount m b fourth f₅ in
+      let kept = entries-sagas (ceilingOf ed) s w (sum + p) k c t (within-next (ceilingOf ed) s b 0 mostDependencies BadCount k c f₆ .1) q in
+      let there : 2 + g + 1 + 1 ≡ 4 + dependenciesFrom (ceilingOf ed) s (sum + p) k c t .tables .sagas = omega (arith, kept, third .1, sagas-none) in
+      sym fifth ∙ ap (placeOfField (ceilingOf ed) s) there)))
       (λ r q f. rw f (tested-no r q))))
       (λ r q f. rw f (tested-no r q))))
       (λ r q f. rw f (tested-no r q))))
       (λ r q f. rw f (tested-no r q))))
       (λ r q f. rw f (tested-no r q))))
       (λ r q f. rw f (tested-no r q))
-    where
-      start : placeOfField cap s 0 ≡ 0
-      start = place-start cap s
 
   -- ---- the promise
 
   -- by the test: refused at the count, or as with circles permitted
   by-test : (Q : TablesRead → Type 0)
-      → ((at : ℕ) → tablesBy Permitted cap s .answer ≡ Read at → hasCircle (tablesBy Permitted cap s .tables) ≡ true
-      → Q (refused NeverMoves (countPlace cap s (tablesBy Permitted cap s .tables))))
-      → (((at : ℕ) → tablesBy Permitted cap s .answer ≡ Read at → hasCircle (tablesBy Permitted cap s .tables) ≡ false) → Q (tablesBy Permitted cap s))
-      → Q (tablesBy Forbidden cap s)
+      → ((at : ℕ) → tablesBy Permitted ed s .answer ≡ Read at → hasCircle (tablesBy Permitted ed s .tables) ≡ true
+      → Q (refused NeverMoves (countPlace ed s (tablesBy Permitted ed s .tables))))
+      → (((at : ℕ) → tablesBy Permitted ed s .answer ≡ Read at → hasCircle (tablesBy Permitted ed s .tables) ≡ false) → Q (tablesBy Permitted ed s))
+      → Q (tablesBy Forbidden ed s)
   unfolding unlessCircle
   by-test Q yes-stuck no-stuck =
-      let permitted = tablesBy Permitted cap s in
+      let permitted = tablesBy Permitted ed s in
       subst⁻¹ Q tested
       (bool-cases (isRead (permitted .answer) && hasCircle (permitted .tables))
       (λ h.
@@ -195,39 +201,39 @@ module _ (cap : ℕ) (s : List ℕ) where
   same-place p q e = cc
 
   -- with circles permitted no tables are refused by 21
-  permitted-not : {A : Type 0} (p : ℕ) → tablesBy Permitted cap s .answer ≡ Refused NeverMoves p → A
+  permitted-not : {A : Type 0} (p : ℕ) → tablesBy Permitted ed s .answer ≡ Refused NeverMoves p → A
   permitted-not p e =
       ⊎-elim
       (λ f. absurd (omega (arith, f .high)))
       (λ f. let z : _≡_ {A = ℕ} 0 1 = ap tag (f .0) in absurd (omega arith))
-      (refused-number Permitted cap s NeverMoves p e)
+      (refused-number Permitted ed s NeverMoves p e)
     where
       tag : Circles → ℕ
       tag Forbidden = 1
       tag Permitted = 0
 
-  circles-refused : CirclesRefused cap s
+  circles-refused : CirclesRefused ed s
   circles-refused =
       record {
         refused = λ p. (
           by-test (λ (r : TablesRead). r .answer ≡ Refused NeverMoves p → Round p)
-              (λ at e h f. ((at, e), (stuck-round (tablesBy Permitted cap s .tables) (accepted-well Permitted cap s at e) h, same-place _ p f)))
+              (λ at e h f. ((at, e), (stuck-round (tablesBy Permitted ed s .tables) (accepted-well Permitted ed s at e) h, same-place _ p f)))
               (λ h f. permitted-not p f),
           λ g.
               by-test (λ (r : TablesRead). r .answer ≡ Refused NeverMoves p)
               (λ at e h. ap (λ (n : ℕ). Refused NeverMoves n) (sym (g .1 .1)))
               (λ h.
-              clash (round-stuck (tablesBy Permitted cap s .tables) (accepted-well Permitted cap s (g .0 .0) (g .0 .1)) (g .1 .0)) (h (g .0 .0) (g .0 .1))),
+              clash (round-stuck (tablesBy Permitted ed s .tables) (accepted-well Permitted ed s (g .0 .0) (g .0 .1)) (g .1 .0)) (h (g .0 .0) (g .0 .1))),
         );
-        others-first = λ r p e. by-test (λ (x : TablesRead). x ≡ tablesBy Permitted cap s) (λ at f h. no-read (sym e ∙ f)) (λ h. refl);
+        others-first = λ r p e. by-test (λ (x : TablesRead). x ≡ tablesBy Permitted ed s) (λ at f h. no-read (sym e ∙ f)) (λ h. refl);
         no-circle = λ at e no.
-            by-test (λ (r : TablesRead). r ≡ tablesBy Permitted cap s)
-            (λ x f h. absurd (no (stuck-round (tablesBy Permitted cap s .tables) (accepted-well Permitted cap s at e) h))) (λ h. refl);
-        accepted = λ at. by-test (λ (x : TablesRead). x .answer ≡ Read at → tablesBy Permitted cap s ≡ x) (λ x f h. no-read) (λ h f. refl);
+            by-test (λ (r : TablesRead). r ≡ tablesBy Permitted ed s)
+            (λ x f h. absurd (no (stuck-round (tablesBy Permitted ed s .tables) (accepted-well Permitted ed s at e) h))) (λ h. refl);
+        accepted = λ at. by-test (λ (x : TablesRead). x .answer ≡ Read at → tablesBy Permitted ed s ≡ x) (λ x f h. no-read) (λ h f. refl);
       }
     where
       Round : ℕ → Type 0
-      Round p = ((at : ℕ) × (tablesBy Permitted cap s .answer ≡ Read at)) × (GoesRound (tablesBy Permitted cap s .tables) × (p ≡ countPlace cap s (tablesBy Permitted cap s .tables)))
+      Round p = ((at : ℕ) × (tablesBy Permitted ed s .answer ≡ Read at)) × (GoesRound (tablesBy Permitted ed s .tables) × (p ≡ countPlace ed s (tablesBy Permitted ed s .tables)))
 
 pub never-moves-refused : NeverMovesRefused
-never-moves-refused cap s = circles-refused cap s
+never-moves-refused ed s = circles-refused ed s

@@ -6,16 +6,18 @@ use mathlib.Core.Bool.{true}
 use mathlib.Core.List.{List, [], _∷_, _++_, append-nil, append-assoc}
 use lib.ListN.{length, length-set, getD, take}
 use Rattle.laws.proofs.ListLaws.{take-stored}
-use Rattle.terms.specs.Limits.{edition, mostDependencies, mostObjects, mostSagas, mostSteps, mostTransactions}
+use Rattle.terms.specs.Limits.{mostDependencies, mostObjects, mostSagas, mostSteps, mostTransactions}
 use Rattle.terms.specs.declared.Refusal.the-variants.{BadCount, BadEdition}
-use Rattle.number.specs.Number.{noFields, rowAt}
+use Rattle.number.specs.declared.Edition.{Edition}
+use Rattle.number.specs.Number.{ceilingOf, editionNumber, noFields, rowAt}
 use Rattle.number.specs.declared.Field.the-variants.{Value}
 use Rattle.number.proofs.FieldLaws.{by-field, within-next, within-range}
 use Rattle.number.proofs.Passing.{Passes, join, pass-within}
 use Rattle.number.proofs.RowLaws.{row-fields, row-places}
-use Rattle.number.proofs.Spelling.{no-value}
+use Rattle.number.proofs.Spelling.{no-value, number-same}
+use Rattle.number.proofs.EditionLaws.{ceiling-low, edition-low}
 use Rattle.tables.specs.Dependencies.{entryHolds, kindNumber, kindOf}
-use Rattle.tables.specs.Reading.{dependenciesFrom, emptyTables, entryAt, sagasFrom, tablesBy, withCounts, withEntry, withSaga}
+use Rattle.tables.specs.Reading.{dependenciesFrom, emptyTables, entryAt, sagasFrom, tablesBy, withCounts, withEntry, withSaga, editionCeiling}
 use Rattle.tables.specs.Sorts.{sagasOf}
 use Rattle.tables.specs.Written.{declaredOf, entriesFields, entryFields, tableFields}
 use Rattle.tables.specs.declared.Circles.{Circles}
@@ -165,42 +167,43 @@ module _ (cap : ℕ) (s : List ℕ) where
         ))
         e
 
-    -- the tables of a book, where they are accepted
-    pub tables-pass : (circles : Circles) → tablesBy circles cap s .answer ≡ Read x → Passes cap s 0 (tableFields (tablesBy circles cap s .tables)) x
-    tables-pass circles =
-        by-tables cap s circles Goal (λ r p f. no-read)
-        (λ e g u w sum z f₁ f₂ f₃.
-        let first = within-range cap s 0 edition edition BadEdition e u f₁ in
-        let few = within-range cap s u 0 mostSagas BadCount g w f₂ .1 in
-        let v = within-next cap s u 0 mostSagas BadCount g w f₂ .1 in
-        let T = sagasFrom cap s g w 0 emptyTables .tables in
-        let listed = pass-sagas g w 0 emptyTables sum z v (omega (arith, few, empty-sagas, empty-steps)) f₃ in
-        let made = listed .2 in
-        by-rest cap s circles z sum T Goal (sagas-next cap s g w 0 emptyTables sum z v f₃ .1) (λ r p f. no-read)
-        (λ q m k a b c h₁ h₂ h₃.
-        by-circle circles b _ Goal (λ f. no-read)
-        (λ kept h.
-        let many = within-range cap s b 0 mostDependencies BadCount k c h₃ .1 in
-        let none : T .declared ≡ 0 = made .same-count ∙ empty-declared in
-        let room : length (T .dependencies) ≡ mostDependencies = ap length (made .same-entries) ∙ empty-entries in
-        let declared = pass-entries (sum + q) k c (withCounts T q m) (within-next cap s b 0 mostDependencies BadCount k c h₃ .1) (omega (arith, many, none, room)) h in
-        let end = declared .2 in
-        let edition-is : e ≡ edition = omega (arith, first .0, first .1) in
-        let sagas-are : g ≡ dependenciesFrom cap s (sum + q) k c (withCounts T q m) .tables .sagas = omega (arith, end .same-sagas, made .counted, empty-sagas) in
-        let steps-are : listed .0 ≡ sagasOf (dependenciesFrom cap s (sum + q) k c (withCounts T q m) .tables) =
-        sym (ap (λ (j : ℕ). take j (emptyTables .steps) ++ listed .0) empty-sagas)
-        ∙ sym (made .steps)
-        ∙ sym (ap₂ (λ (j : ℕ) (l : List ℕ). take j l) (end .same-sagas) (end .same-steps)) in
-        let count-is : k ≡ dependenciesFrom cap s (sum + q) k c (withCounts T q m) .tables .declared = omega (arith, end .counted, none) in
-        let entries-are : declared .0 ≡ entriesFields (declaredOf (dependenciesFrom cap s (sum + q) k c (withCounts T q m) .tables)) =
-        sym (ap (λ (j : ℕ). entriesFields (take j (T .dependencies)) ++ declared .0) none ∙ no-entries (T .dependencies) (declared .0)) ∙ sym (end .entries) in
-        subst (λ (l : List ℕ). Passes cap s 0 l x) (same-order edition-is sagas-are steps-are (sym (end .same-plain)) (sym (end .same-objects)) count-is entries-are)
-        (join cap s (pass-within cap s 0 edition edition BadEdition e u f₁)
-        (join cap s (pass-within cap s u 0 mostSagas BadCount g w f₂)
-        (join cap s (listed .1)
-        (join cap s (pass-within cap s z 0 (mostTransactions - sum) BadCount q a h₁)
-        (join cap s (pass-within cap s a 0 mostObjects BadCount m b h₂)
-        (join cap s (pass-within cap s b 0 mostDependencies BadCount k c h₃) (declared .1))))))))))
-      where
-        Goal : TablesRead → Type 0
-        Goal r = r .answer ≡ Read x → Passes cap s 0 (tableFields (r .tables)) x
+-- the tables of a book, where they are accepted
+module _ (ed : Edition) (s : List ℕ) (x : ℕ) where
+  pub tables-pass : (circles : Circles) → tablesBy circles ed s .answer ≡ Read x → Passes (ceilingOf ed) s 0 (tableFields ed (tablesBy circles ed s .tables)) x
+  tables-pass circles =
+      by-tables ed s circles Goal (λ r p f. no-read)
+      (λ e g u w sum z f₁ f₂ f₃.
+      let first = within-range editionCeiling s 0 (editionNumber ed) (editionNumber ed) BadEdition e u f₁ in
+      let few = within-range (ceilingOf ed) s u 0 mostSagas BadCount g w f₂ .1 in
+      let v = within-next (ceilingOf ed) s u 0 mostSagas BadCount g w f₂ .1 in
+      let T = sagasFrom (ceilingOf ed) s g w 0 emptyTables .tables in
+      let listed = pass-sagas (ceilingOf ed) s g w 0 emptyTables sum z v (omega (arith, few, empty-sagas, empty-steps)) f₃ in
+      let made = listed .2 in
+      by-rest (ceilingOf ed) s circles z sum T Goal (sagas-next (ceilingOf ed) s g w 0 emptyTables sum z v f₃ .1) (λ r p f. no-read)
+      (λ q m k a b c h₁ h₂ h₃.
+      by-circle circles b _ Goal (λ f. no-read)
+      (λ kept h.
+      let many = within-range (ceilingOf ed) s b 0 mostDependencies BadCount k c h₃ .1 in
+      let none : T .declared ≡ 0 = made .same-count ∙ empty-declared in
+      let room : length (T .dependencies) ≡ mostDependencies = ap length (made .same-entries) ∙ empty-entries in
+      let declared = pass-entries (ceilingOf ed) s x (sum + q) k c (withCounts T q m) (within-next (ceilingOf ed) s b 0 mostDependencies BadCount k c h₃ .1) (omega (arith, many, none, room)) h in
+      let end = declared .2 in
+      let edition-is : e ≡ editionNumber ed = omega (arith, first .0, first .1) in
+      let sagas-are : g ≡ dependenciesFrom (ceilingOf ed) s (sum + q) k c (withCounts T q m) .tables .sagas = omega (arith, end .same-sagas, made .counted, empty-sagas) in
+      let steps-are : listed .0 ≡ sagasOf (dependenciesFrom (ceilingOf ed) s (sum + q) k c (withCounts T q m) .tables) =
+      sym (ap (λ (j : ℕ). take j (emptyTables .steps) ++ listed .0) empty-sagas)
+      ∙ sym (made .steps)
+      ∙ sym (ap₂ (λ (j : ℕ) (l : List ℕ). take j l) (end .same-sagas) (end .same-steps)) in
+      let count-is : k ≡ dependenciesFrom (ceilingOf ed) s (sum + q) k c (withCounts T q m) .tables .declared = omega (arith, end .counted, none) in
+      let entries-are : declared .0 ≡ entriesFields (declaredOf (dependenciesFrom (ceilingOf ed) s (sum + q) k c (withCounts T q m) .tables)) =
+      sym (ap (λ (j : ℕ). entriesFields (take j (T .dependencies)) ++ declared .0) none ∙ no-entries (T .dependencies) (declared .0)) ∙ sym (end .entries) in
+      subst (λ (l : List ℕ). Passes (ceilingOf ed) s 0 l x) (same-order edition-is sagas-are steps-are (sym (end .same-plain)) (sym (end .same-objects)) count-is entries-are)
+      (join (ceilingOf ed) s (Passes.on (number-same editionCeiling (ceilingOf ed) s 0 e u (first .2) (omega (arith, first .1, edition-low ed, ceiling-low ed))) Passes.here)
+      (join (ceilingOf ed) s (pass-within (ceilingOf ed) s u 0 mostSagas BadCount g w f₂)
+      (join (ceilingOf ed) s (listed .1)
+      (join (ceilingOf ed) s (pass-within (ceilingOf ed) s z 0 (mostTransactions - sum) BadCount q a h₁)
+      (join (ceilingOf ed) s (pass-within (ceilingOf ed) s a 0 mostObjects BadCount m b h₂)
+      (join (ceilingOf ed) s (pass-within (ceilingOf ed) s b 0 mostDependencies BadCount k c h₃) (declared .1))))))))))
+    where
+      Goal : TablesRead → Type 0
+      Goal r = r .answer ≡ Read x → Passes (ceilingOf ed) s 0 (tableFields ed (r .tables)) x

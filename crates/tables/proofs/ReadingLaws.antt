@@ -5,10 +5,11 @@ use mathlib.Core.Bool.{Bool, true, false}
 use mathlib.Core.List.{List}
 use lib.ListN.{getD, set}
 use borrow.Author.Tests.{lt-ltb, le-ltb}
-use Rattle.terms.specs.Limits.{edition, mostSagas, mostSteps, mostTransactions, mostObjects, mostDependencies}
+use Rattle.terms.specs.Limits.{mostSagas, mostSteps, mostTransactions, mostObjects, mostDependencies}
 use Rattle.terms.specs.declared.Refusal.{Refusal}
-use Rattle.terms.specs.declared.Refusal.the-variants.{BadEdition, BadCount, BadDependency, NeverMoves}
-use Rattle.number.specs.Number.{numberWithin, rowAt}
+use Rattle.terms.specs.declared.Refusal.the-variants.{BadCount, BadDependency, NeverMoves}
+use Rattle.number.specs.declared.Edition.{Edition}
+use Rattle.number.specs.Number.{ceilingOf, numberWithin, rowAt}
 use Rattle.number.specs.declared.Row.{Row}
 use Rattle.tables.specs.declared.Circles.{Circles}
 use Rattle.tables.specs.declared.Circles.the-variants.{Forbidden, Permitted}
@@ -23,7 +24,7 @@ use Rattle.tables.specs.declared.TablesAnswer.the-variants.{Read, Refuse
 use Rattle.tables.specs.declared.TablesRead.{TablesRead}
 use Rattle.tables.specs.Circles.{hasCircle}
 use Rattle.tables.specs.Dependencies.{kindOf, entryHolds}
-use Rattle.tables.specs.Reading.{emptyTables, sagasStopped, sagasFrom, refused, entryAt, refusedEntry, refusedField, dependenciesFrom, withCounts, unlessCircle, restFrom, tablesBy}
+use Rattle.tables.specs.Reading.{emptyTables, sagasStopped, sagasFrom, refused, entryAt, refusedEntry, refusedField, dependenciesFrom, withCounts, unlessCircle, restFrom, editionField, tablesBy}
 
 -- ---- the sagas
 
@@ -151,21 +152,21 @@ module _ (circles : Circles) (cap : ℕ) (s : List ℕ) (at sum : ℕ) (t : Tabl
       unfolding restFrom
       rest4 k z e = rw (a, b, e)
 
-module _ (circles : Circles) (cap : ℕ) (s : List ℕ) where
-  pub all1 : (c : Field) (r : Refusal) (p : ℕ) → c ≡ numberWithin cap s 0 edition edition BadEdition → c ≡ Fault r p → refusedField c ≡ tablesBy circles cap s
+module _ (circles : Circles) (ed : Edition) (s : List ℕ) where
+  pub all1 : (c : Field) (r : Refusal) (p : ℕ) → c ≡ editionField ed s → c ≡ Fault r p → refusedField c ≡ tablesBy circles ed s
   unfolding tablesBy refusedField
   all1 c r p e f = rw (← e, f)
 
-  module _ (v x : ℕ) (a : numberWithin cap s 0 edition edition BadEdition ≡ Value v x) where
-    pub all2 : (c : Field) (r : Refusal) (p : ℕ) → c ≡ numberWithin cap s x 0 mostSagas BadCount → c ≡ Fault r p → refusedField c ≡ tablesBy circles cap s
+  module _ (v x : ℕ) (a : editionField ed s ≡ Value v x) where
+    pub all2 : (c : Field) (r : Refusal) (p : ℕ) → c ≡ numberWithin (ceilingOf ed) s x 0 mostSagas BadCount → c ≡ Fault r p → refusedField c ≡ tablesBy circles ed s
     unfolding tablesBy refusedField
     all2 c r p e f = rw (a, ← e, f)
 
-    module _ (g y : ℕ) (b : numberWithin cap s x 0 mostSagas BadCount ≡ Value g y) (read : SagasRead) (q : read ≡ sagasFrom cap s g y 0 emptyTables) where
-      pub all3 : (r : Refusal) (p : ℕ) → read .answer ≡ Fault r p → refusedField (read .answer) ≡ tablesBy circles cap s
+    module _ (g y : ℕ) (b : numberWithin (ceilingOf ed) s x 0 mostSagas BadCount ≡ Value g y) (read : SagasRead) (q : read ≡ sagasFrom (ceilingOf ed) s g y 0 emptyTables) where
+      pub all3 : (r : Refusal) (p : ℕ) → read .answer ≡ Fault r p → refusedField (read .answer) ≡ tablesBy circles ed s
       unfolding tablesBy refusedField
       all3 r p f = rw (a, b, ← q, f)
 
-      pub all4 : (sum z : ℕ) → read .answer ≡ Value sum z → restFrom circles cap s z sum (read .tables) ≡ tablesBy circles cap s
+      pub all4 : (sum z : ℕ) → read .answer ≡ Value sum z → restFrom circles (ceilingOf ed) s z sum (read .tables) ≡ tablesBy circles ed s
       unfolding tablesBy
       all4 sum z f = rw (a, b, ← q, f)

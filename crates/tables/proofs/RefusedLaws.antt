@@ -8,6 +8,8 @@ use lib.ListN.{length}
 use Rattle.terms.specs.Limits.{mostSagas, mostObjects, mostDependencies}
 use Rattle.terms.specs.declared.Refusal.{Refusal}
 use Rattle.terms.specs.declared.Refusal.the-variants.{BadCount, NeverMoves}
+use Rattle.number.specs.declared.Edition.{Edition}
+use Rattle.number.specs.Number.{ceilingOf}
 use Rattle.number.proofs.FieldLaws.{within-next}
 use Rattle.tables.specs.declared.Circles.{Circles}
 use Rattle.tables.specs.declared.Circles.the-variants.{Forbidden}
@@ -18,7 +20,7 @@ use Rattle.tables.specs.Reading.{emptyTables, sagasFrom, refused, withEn
 use Rattle.tables.proofs.FaultLaws.{Faulty}
 use Rattle.tables.proofs.WayLaws.{sagas-next, by-circle, by-entry, by-rest, by-tables}
 
-module _ (circles : Circles) (cap : ℕ) (s : List ℕ) (r : Refusal) (p : ℕ) where
+module _ (circles : Circles) (ed : Edition) (s : List ℕ) (r : Refusal) (p : ℕ) where
   abbrev Blank : TablesRead → Type 0
   Blank x = x .answer ≡ Refused r p → (x .tables ≡ emptyTables) × (Faulty s r p ⊎ ((circles ≡ Forbidden) × (r ≡ NeverMoves) × (p ≤ length s)))
 
@@ -28,25 +30,25 @@ module _ (circles : Circles) (cap : ℕ) (s : List ℕ) (r : Refusal) (p : ℕ) 
   blank-circle : (at : ℕ) → at ≤ length s → circles ≡ Forbidden → Blank (refused NeverMoves at)
   blank-circle at l f e = let a : NeverMoves ≡ r = cc in let b : at ≡ p = cc in (refl, inr (f, sym a, omega arith))
 
-  blank-entries : (n k at : ℕ) (t : Tables) → at ≤ length s → Blank (dependenciesFrom cap s n k at t)
+  blank-entries : (n k at : ℕ) (t : Tables) → at ≤ length s → Blank (dependenciesFrom (ceilingOf ed) s n k at t)
   unfolding dependenciesFrom
   blank-entries n zero at t b = λ e. let z : _≡_ {A = ℕ} 0 1 = cc in absurd (omega arith)
   blank-entries n (suc k) at t b =
-      by-entry cap s n k at t Blank b blank-stop
+      by-entry (ceilingOf ed) s n k at t Blank b blank-stop
       (λ d b kind next f l h. blank-entries n k next (withEntry t d b kind) l)
 
-  blank : Blank (tablesBy circles cap s)
+  blank : Blank (tablesBy circles ed s)
   blank =
-      by-tables cap s circles Blank blank-stop
+      by-tables ed s circles Blank blank-stop
       (λ e g x y sum z f₁ f₂ f₃.
-      let t = sagasFrom cap s g y 0 emptyTables .tables in
-      by-rest cap s circles z sum t Blank (sagas-next cap s g y 0 emptyTables sum z (within-next cap s x 0 mostSagas BadCount g y f₂ .1) f₃ .1) blank-stop
+      let t = sagasFrom (ceilingOf ed) s g y 0 emptyTables .tables in
+      by-rest (ceilingOf ed) s circles z sum t Blank (sagas-next (ceilingOf ed) s g y 0 emptyTables sum z (within-next (ceilingOf ed) s x 0 mostSagas BadCount g y f₂ .1) f₃ .1) blank-stop
       (λ q m k u v w h₁ h₂ h₃.
-      by-circle circles v _ Blank (blank-circle v (within-next cap s u 0 mostObjects BadCount m v h₂ .1))
-      (λ kept. blank-entries (sum + q) k w (withCounts t q m) (within-next cap s v 0 mostDependencies BadCount k w h₃ .1))))
+      by-circle circles v _ Blank (blank-circle v (within-next (ceilingOf ed) s u 0 mostObjects BadCount m v h₂ .1))
+      (λ kept. blank-entries (sum + q) k w (withCounts t q m) (within-next (ceilingOf ed) s v 0 mostDependencies BadCount k w h₃ .1))))
 
-  pub refused-empty : tablesBy circles cap s .answer ≡ Refused r p → tablesBy circles cap s .tables ≡ emptyTables
+  pub refused-empty : tablesBy circles ed s .answer ≡ Refused r p → tablesBy circles ed s .tables ≡ emptyTables
   refused-empty e = blank e .0
 
-  pub refused-number : tablesBy circles cap s .answer ≡ Refused r p → Faulty s r p ⊎ ((circles ≡ Forbidden) × (r ≡ NeverMoves) × (p ≤ length s))
+  pub refused-number : tablesBy circles ed s .answer ≡ Refused r p → Faulty s r p ⊎ ((circles ≡ Forbidden) × (r ≡ NeverMoves) × (p ≤ length s))
   refused-number e = blank e .1

@@ -9,11 +9,12 @@ use lib.ListN.{length, getD}
 use lib.Dec.{ltb}
 use borrow.Author.Tests.{ltb-false}
 use Rattle.laws.proofs.Bools.{bool-cases}
-use Rattle.terms.specs.Limits.{edition, mostSagas, mostSteps, mostTransactions, mostObjects, mostDependencies}
+use Rattle.terms.specs.Limits.{mostSagas, mostSteps, mostTransactions, mostObjects, mostDependencies}
 use Rattle.terms.specs.declared.Refusal.{Refusal}
 use Rattle.terms.specs.declared.Refusal.the-variants.{BadEdition, BadCount, BadDependency, NeverMoves}
+use Rattle.number.specs.declared.Edition.{Edition}
 use Rattle.number.proofs.Spelling.{no-value}
-use Rattle.number.specs.Number.{numberWithin, noFields, rowAt}
+use Rattle.number.specs.Number.{ceilingOf, editionNumber, numberWithin, noFields, rowAt}
 use Rattle.number.proofs.FieldLaws.{by-field, within-next}
 use Rattle.number.proofs.Beginnings.{Agrees}
 use Rattle.number.proofs.RowLaws.{RowInside, row-inside, row-fault}
@@ -28,7 +29,7 @@ use Rattle.tables.specs.declared.TablesAnswer.the-variants.{Read, Refuse
 use Rattle.tables.specs.declared.TablesRead.{TablesRead}
 use Rattle.tables.specs.Circles.{hasCircle}
 use Rattle.tables.specs.Dependencies.{entryHolds}
-use Rattle.tables.specs.Reading.{emptyTables, withSaga, sagasStopped, sagasFrom, refused, entryBy, entryAt, withEntry, thenEntry, dependenciesFrom, withCounts, isRead, unlessCircle, restFrom, tablesBy}
+use Rattle.tables.specs.Reading.{emptyTables, withSaga, sagasStopped, sagasFrom, refused, entryBy, entryAt, withEntry, thenEntry, dependenciesFrom, withCounts, isRead, unlessCircle, restFrom, editionField, tablesBy, editionCeiling}
 use Rattle.tables.proofs.FaultLaws.{Faulty, within-fault}
 
 pub no-read : {A : Type 0} {r : Refusal} {p at : ℕ} → Refused r p ≡ Read at → A
@@ -152,26 +153,27 @@ module _ (cap : ℕ) (s : List ℕ) where
       (λ r q f. stop r q (within-fault cap s x u 0 mostObjects BadCount (bad-count x u) r q f)))
       (λ r q f. stop r q (within-fault cap s at b 0 (mostTransactions - sum) BadCount (bad-count at b) r q f))
 
-  -- ---- the whole
+-- ---- the whole
 
+module _ (ed : Edition) (s : List ℕ) where
   pub by-tables : (circles : Circles) (Q : TablesRead → Type 0)
       → ((r : Refusal) (p : ℕ) → Faulty s r p → Q (refused r p))
-      → ((e g x y sum z : ℕ) → numberWithin cap s 0 edition edition BadEdition ≡ Value e x
-      → numberWithin cap s x 0 mostSagas BadCount ≡ Value g y → sagasFrom cap s g y 0 emptyTables .answer ≡ Value sum z
-      → Q (restFrom circles cap s z sum (sagasFrom cap s g y 0 emptyTables .tables)))
-      → Q (tablesBy circles cap s)
+      → ((e g x y sum z : ℕ) → editionField ed s ≡ Value e x
+      → numberWithin (ceilingOf ed) s x 0 mostSagas BadCount ≡ Value g y → sagasFrom (ceilingOf ed) s g y 0 emptyTables .answer ≡ Value sum z
+      → Q (restFrom circles (ceilingOf ed) s z sum (sagasFrom (ceilingOf ed) s g y 0 emptyTables .tables)))
+      → Q (tablesBy circles ed s)
   unfolding tablesBy
   by-tables circles Q stop more =
-      by-field (numberWithin cap s 0 edition edition BadEdition) refused _ Q
+      by-field (editionField ed s) refused _ Q
       (λ e x f₁.
-      let u = within-next cap s 0 edition edition BadEdition e x f₁ .1 in
-      by-field (numberWithin cap s x 0 mostSagas BadCount) refused _ Q
+      let u = within-next editionCeiling s 0 (editionNumber ed) (editionNumber ed) BadEdition e x f₁ .1 in
+      by-field (numberWithin (ceilingOf ed) s x 0 mostSagas BadCount) refused _ Q
       (λ g y f₂.
-      let v = within-next cap s x 0 mostSagas BadCount g y f₂ .1 in
-      by-field (sagasFrom cap s g y 0 emptyTables .answer) refused _ Q
+      let v = within-next (ceilingOf ed) s x 0 mostSagas BadCount g y f₂ .1 in
+      by-field (sagasFrom (ceilingOf ed) s g y 0 emptyTables .answer) refused _ Q
       (λ sum z f₃. more e g x y sum z f₁ f₂ f₃)
-      (λ r q f. stop r q (sagas-fault g y 0 emptyTables r q v f)))
-      (λ r q f. stop r q (within-fault cap s x u 0 mostSagas BadCount (bad-count x u) r q f)))
+      (λ r q f. stop r q (sagas-fault (ceilingOf ed) s g y 0 emptyTables r q v f)))
+      (λ r q f. stop r q (within-fault (ceilingOf ed) s x u 0 mostSagas BadCount (bad-count (ceilingOf ed) s x u) r q f)))
       (λ r q f.
       let b : 0 ≤ length s = omega arith in
-      stop r q (within-fault cap s 0 b edition edition BadEdition (record { inside = b; low = omega arith; high = omega arith }) r q f))
+      stop r q (within-fault editionCeiling s 0 b (editionNumber ed) (editionNumber ed) BadEdition (record { inside = b; low = omega arith; high = omega arith }) r q f))

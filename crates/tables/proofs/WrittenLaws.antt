@@ -13,19 +13,21 @@ use Rattle.laws.proofs.Bools.{and-on, or-left, or-right}
 use Rattle.laws.proofs.Decisions.{lt-or}
 use Rattle.laws.specs.Index.{anyBelow}
 use Rattle.laws.proofs.IndexLaws.{any-same}
-use Rattle.terms.specs.Limits.{edition, mostDependencies, mostObjects, mostSagas, mostSteps, mostTransactions}
+use Rattle.terms.specs.Limits.{mostDependencies, mostObjects, mostSagas, mostSteps, mostTransactions}
 use Rattle.terms.specs.declared.Refusal.the-variants.{BadCount, BadEdition}
 use Rattle.sets.proofs.ReachLaws.{leads-more}
-use Rattle.number.specs.Number.{rowFrom}
+use Rattle.number.specs.declared.Edition.{Edition}
+use Rattle.number.specs.Number.{ceilingOf, editionNumber, rowFrom}
 use Rattle.number.specs.declared.Field.the-variants.{Value}
 use Rattle.number.proofs.FieldLaws.{within-in}
 use Rattle.number.proofs.Passing.{Passes, pass-none, pass-same, split}
-use Rattle.number.proofs.Spelling.{number-next}
+use Rattle.number.proofs.Spelling.{number-next, number-same}
+use Rattle.number.proofs.EditionLaws.{edition-low}
 use Rattle.tables.specs.Accepted.{GoesRound, SameTables, Well}
 use Rattle.tables.specs.Circles.{beginLink, waitsBy}
 use Rattle.tables.specs.Counts.{dependencyCount}
 use Rattle.tables.specs.Dependencies.{allowed, dependencyAt, entryHolds, kindNumber, kindOf, noDependency, risesFrom, risesTo}
-use Rattle.tables.specs.Reading.{dependenciesFrom, emptyTables, entryAt, restFrom, sagasFrom, tablesBy, unlessCircle, withCounts, withEntry, withSaga}
+use Rattle.tables.specs.Reading.{dependenciesFrom, emptyTables, entryAt, restFrom, sagasFrom, tablesBy, unlessCircle, withCounts, withEntry, withSaga, editionCeiling}
 use Rattle.tables.specs.Sorts.{numberOfAll, ownedBy, sagasOf, sortFrom, sortOf}
 use Rattle.tables.specs.Written.{declaredOf, entriesFields, entryFields, tableFields}
 use Rattle.tables.specs.declared.Circles.the-variants.{Forbidden, Permitted}
@@ -182,27 +184,28 @@ module _ (cap : ℕ) (s : List ℕ) where
         (entries-accepted (t .declared) 0 c x (withCounts u (t .plain) (t .objects)) (omega arith)
         (record { steps = steps; plain = refl; count = none; room = room; last = λ j e. absurd (omega arith) }) w)
 
-    -- reading accepts them up to where they end
-    tables-accepted : (x : ℕ) → Passes cap s 0 (tableFields t) x → tablesBy Permitted cap s .answer ≡ Read x
-    unfolding tablesBy
-    tables-accepted x (Passes.on {p = a} f₁ (Passes.on {p = b} f₂ w)) =
-        let parts = split cap s (sagasOf t) w in
-        let m = parts .0 in
-        let fits = well .fits in
-        let many = steps-many t well in
-        let sum : 0 + ownedBy (sagasOf t) ≡ ownedBy (sagasOf t) = omega arith in
-        let sagas : sagasFrom cap s (t .sagas) b 0 emptyTables .answer ≡ Value (ownedBy (sagasOf t)) m =
-        subst (λ (k : ℕ). sagasFrom cap s k b 0 emptyTables .answer ≡ Value (ownedBy (sagasOf t)) m) many
-        (sagas-accepted (sagasOf t) b 0 m emptyTables (parts .1) steps-each (omega arith) ∙ ap (λ (v : ℕ). Value v m) sum) in
-        let read = pass-sagas cap s (t .sagas) b 0 emptyTables (ownedBy (sagasOf t)) m (number-next cap s a (t .sagas) b f₂ .1) (omega (arith, well .listed, empty-sagas, empty-steps)) sagas in
-        let made = read .2 in
-        let steps = made .steps ∙ ap (λ (j : ℕ). take j (emptyTables .steps) ++ read .0) empty-sagas ∙ pass-same cap s (read .1) (parts .1) in
-        rw (
-          within-in cap s 0 edition edition BadEdition edition a f₁ (omega arith) (omega arith),
-          within-in cap s a 0 mostSagas BadCount (t .sagas) b f₂ (omega arith) (well .listed),
-          sagas,
-        )
-        (rest-accepted m x (sagasFrom cap s (t .sagas) b 0 emptyTables .tables) steps (made .same-count ∙ empty-declared) (ap length (made .same-entries) ∙ empty-entries) (parts .2))
+-- reading accepts them up to where they end
+module _ (ed : Edition) (s : List ℕ) (t : Tables) (well : Well t) where
+  tables-accepted : (x : ℕ) → Passes (ceilingOf ed) s 0 (tableFields ed t) x → tablesBy Permitted ed s .answer ≡ Read x
+  unfolding tablesBy
+  tables-accepted x (Passes.on {p = a} f₁ (Passes.on {p = b} f₂ w)) =
+      let parts = split (ceilingOf ed) s (sagasOf t) w in
+      let m = parts .0 in
+      let fits = well .fits in
+      let many = steps-many t well in
+      let sum : 0 + ownedBy (sagasOf t) ≡ ownedBy (sagasOf t) = omega arith in
+      let sagas : sagasFrom (ceilingOf ed) s (t .sagas) b 0 emptyTables .answer ≡ Value (ownedBy (sagasOf t)) m =
+      subst (λ (k : ℕ). sagasFrom (ceilingOf ed) s k b 0 emptyTables .answer ≡ Value (ownedBy (sagasOf t)) m) many
+      (sagas-accepted (ceilingOf ed) s (sagasOf t) b 0 m emptyTables (parts .1) (steps-each (ceilingOf ed) s t well) (omega arith) ∙ ap (λ (v : ℕ). Value v m) sum) in
+      let read = pass-sagas (ceilingOf ed) s (t .sagas) b 0 emptyTables (ownedBy (sagasOf t)) m (number-next (ceilingOf ed) s a (t .sagas) b f₂ .1) (omega (arith, well .listed, empty-sagas, empty-steps)) sagas in
+      let made = read .2 in
+      let steps = made .steps ∙ ap (λ (j : ℕ). take j (emptyTables .steps) ++ read .0) empty-sagas ∙ pass-same (ceilingOf ed) s (read .1) (parts .1) in
+      rw (
+        within-in editionCeiling s 0 (editionNumber ed) (editionNumber ed) BadEdition (editionNumber ed) a (number-same (ceilingOf ed) editionCeiling s 0 (editionNumber ed) a f₁ (omega (arith, edition-low ed))) (omega arith) (omega arith),
+        within-in (ceilingOf ed) s a 0 mostSagas BadCount (t .sagas) b f₂ (omega arith) (well .listed),
+        sagas,
+      )
+      (rest-accepted (ceilingOf ed) s t well m x (sagasFrom (ceilingOf ed) s (t .sagas) b 0 emptyTables .tables) steps (made .same-count ∙ empty-declared) (ap length (made .same-entries) ∙ empty-entries) (parts .2))
 
 -- ---- tables with the same fields are the same tables
 
@@ -220,7 +223,7 @@ entries-same (x ∷ xs) (y ∷ ys) e =
         → _≡_ {A = Dependency} (record { dependent = d; base = b; kind = k }) (record { dependent = d′; base = b′; kind = k′ })
     same-entry p q r = cc
 
-module _ (t u : Tables) (wt : Well t) (wu : Well u) (same : tableFields u ≡ tableFields t) where
+module _ (ed : Edition) (t u : Tables) (wt : Well t) (wu : Well u) (same : tableFields ed u ≡ tableFields ed t) where
   abbrev counts : Tables → List ℕ
   counts x = x .plain ∷ x .objects ∷ x .declared ∷ entriesFields (declaredOf x)
 
@@ -259,23 +262,23 @@ module _ (t u : Tables) (wt : Well t) (wu : Well u) (same : tableFields u ≡ ta
 
 -- ---- accepted as themselves
 
-module _ (cap : ℕ) (s : List ℕ) (t : Tables) (well : Well t) (x : ℕ) (fields : Passes cap s 0 (tableFields t) x) where
+module _ (ed : Edition) (s : List ℕ) (t : Tables) (well : Well t) (x : ℕ) (fields : Passes (ceilingOf ed) s 0 (tableFields ed t) x) where
   abbrev read : Tables
-  read = tablesBy Permitted cap s .tables
+  read = tablesBy Permitted ed s .tables
 
-  answer : tablesBy Permitted cap s .answer ≡ Read x
-  answer = tables-accepted cap s t well x fields
+  answer : tablesBy Permitted ed s .answer ≡ Read x
+  answer = tables-accepted ed s t well x fields
 
   well-read : Well read
-  well-read = accepted-well Permitted cap s x answer
+  well-read = accepted-well Permitted ed s x answer
 
-  fields-read : tableFields read ≡ tableFields t
-  fields-read = pass-same cap s (tables-pass cap s x Permitted answer) fields
+  fields-read : tableFields ed read ≡ tableFields ed t
+  fields-read = pass-same (ceilingOf ed) s (tables-pass ed s x Permitted answer) fields
 
-  pub back-permitted : (tablesBy Permitted cap s .answer ≡ Read x) × SameTables read t
-  back-permitted = (answer, same-tables t read well well-read fields-read)
+  pub back-permitted : (tablesBy Permitted ed s .answer ≡ Read x) × SameTables read t
+  back-permitted = (answer, same-tables ed t read well well-read fields-read)
 
-  pub back-forbidden : (GoesRound t → ⊥) → (tablesBy Forbidden cap s .answer ≡ Read x) × SameTables (tablesBy Forbidden cap s .tables) t
+  pub back-forbidden : (GoesRound t → ⊥) → (tablesBy Forbidden ed s .answer ≡ Read x) × SameTables (tablesBy Forbidden ed s .tables) t
   back-forbidden none =
-      let same = never-moves-refused cap s .no-circle x answer (λ g. none (same-round t read well well-read fields-read g)) in
+      let same = never-moves-refused ed s .no-circle x answer (λ g. none (same-round ed t read well well-read fields-read g)) in
       subst⁻¹ (λ (r : TablesRead). (r .answer ≡ Read x) × SameTables (r .tables) t) same back-permitted

@@ -7,13 +7,16 @@ use mathlib.Core.List.{List}
 use lib.ListN.{getD}
 use Rattle.terms.specs.Limits.{mostSagas, mostSteps, mostTransactions, mostObjects, mostDependencies}
 use Rattle.terms.specs.declared.Refusal.{Refusal}
-use Rattle.terms.specs.declared.Refusal.the-variants.{NeverMoves}
+use Rattle.terms.specs.declared.Refusal.the-variants.{BadEdition, NeverMoves}
 use Rattle.sets.specs.Reach.{Leads}
-use Rattle.number.specs.Number.{andThen, numberAt}
+use Rattle.number.specs.Number.{andThen, ceilingOf, editionNumber, numberAt}
+use Rattle.number.specs.declared.Edition.{Edition}
+use Rattle.number.specs.declared.Edition.the-variants.{First}
+use Rattle.number.specs.declared.Field.the-variants.{Value, Fault}
 use Rattle.tables.specs.Sorts.{firstOf, numberOfAll, sagasOf, sortOf}
 use Rattle.tables.specs.Dependencies.{kindNumber, dependencyAt, allowed, risesFrom}
 use Rattle.tables.specs.Circles.{beginLink}
-use Rattle.tables.specs.Reading.{tablesBy}
+use Rattle.tables.specs.Reading.{editionOf, tablesBy}
 use Rattle.tables.specs.Written.{declaredOf}
 use Rattle.tables.specs.declared.Circles.{Circles}
 use Rattle.tables.specs.declared.Circles.the-variants.{Forbidden, Permitted}
@@ -43,7 +46,7 @@ pub record Well (t : Tables) : Type 0 where
 
 -- tables that reading accepts are well formed, circles permitted or not
 abbrev pub AcceptedWell : Type 0
-AcceptedWell = (circles : Circles) (cap : ℕ) (s : List ℕ) (at : ℕ) → tablesBy circles cap s .answer ≡ Read at → Well (tablesBy circles cap s .tables)
+AcceptedWell = (circles : Circles) (ed : Edition) (s : List ℕ) (at : ℕ) → tablesBy circles ed s .answer ≡ Read at → Well (tablesBy circles ed s .tables)
 
 -- the same tables, as far as anything looks at them: what stands in their arrays behind the counts is never looked at
 pub record SameTables (t u : Tables) : Type 0 where
@@ -99,23 +102,37 @@ placeOfField cap s zero = 0
 placeOfField cap s (suc n) = andThen (numberAt cap s (placeOfField cap s n)) (λ r p. p) (λ v next. next)
 
 -- the dependency count stands after the edition, the number of sagas, the steps of each, the plain transactions and the objects
-abbrev pub countPlace : ℕ → List ℕ → Tables → ℕ
-countPlace cap s tables = placeOfField cap s (4 + tables .sagas)
+abbrev pub countPlace : Edition → List ℕ → Tables → ℕ
+countPlace ed s tables = placeOfField (ceilingOf ed) s (4 + tables .sagas)
 
 -- "begin kinds 4 to 7 lead from a transaction back to itself"
 abbrev pub GoesRound : Tables → Type 0
 GoesRound tables = (t : ℕ) × Leads (beginLink tables) t t
 
-pub record CirclesRefused (cap : ℕ) (s : List ℕ) : Type 0 where
+pub record CirclesRefused (ed : Edition) (s : List ℕ) : Type 0 where
   -- "Refuse tables exactly when": where they are accepted with circles permitted, and go round; "place at the dependency count"
-  pub refused : (p : ℕ) → (tablesBy Forbidden cap s .answer ≡ Refused NeverMoves p)
-      ↔ (((at : ℕ) × (tablesBy Permitted cap s .answer ≡ Read at)) × (GoesRound (tablesBy Permitted cap s .tables) × (p ≡ countPlace cap s (tablesBy Permitted cap s .tables))))
+  pub refused : (p : ℕ) → (tablesBy Forbidden ed s .answer ≡ Refused NeverMoves p)
+      ↔ (((at : ℕ) × (tablesBy Permitted ed s .answer ≡ Read at)) × (GoesRound (tablesBy Permitted ed s .tables) × (p ≡ countPlace ed s (tablesBy Permitted ed s .tables))))
   -- "judged after the last dependency entry": every other refusal of tables comes first
-  pub others-first : (r : Refusal) (p : ℕ) → tablesBy Permitted cap s .answer ≡ Refused r p → tablesBy Forbidden cap s ≡ tablesBy Permitted cap s
+  pub others-first : (r : Refusal) (p : ℕ) → tablesBy Permitted ed s .answer ≡ Refused r p → tablesBy Forbidden ed s ≡ tablesBy Permitted ed s
   -- what is accepted is read as it was
-  pub accepted : (at : ℕ) → tablesBy Forbidden cap s .answer ≡ Read at → tablesBy Permitted cap s ≡ tablesBy Forbidden cap s
+  pub accepted : (at : ℕ) → tablesBy Forbidden ed s .answer ≡ Read at → tablesBy Permitted ed s ≡ tablesBy Forbidden ed s
   -- and what does not go round is accepted where circles are forbidden too
-  pub no-circle : (at : ℕ) → tablesBy Permitted cap s .answer ≡ Read at → (GoesRound (tablesBy Permitted cap s .tables) → ⊥) → tablesBy Forbidden cap s ≡ tablesBy Permitted cap s
+  pub no-circle : (at : ℕ) → tablesBy Permitted ed s .answer ≡ Read at → (GoesRound (tablesBy Permitted ed s .tables) → ⊥) → tablesBy Forbidden ed s ≡ tablesBy Permitted ed s
 
 abbrev pub NeverMovesRefused : Type 0
-NeverMovesRefused = (cap : ℕ) (s : List ℕ) → CirclesRefused cap s
+NeverMovesRefused = (ed : Edition) (s : List ℕ) → CirclesRefused ed s
+
+-- ---- the edition field
+
+-- a book whose first field is a number names its edition by it, or is refused by 4; a first field that is no number of edition 1, also one above 65,535, is refused as such
+pub record EditionField (circles : Circles) (s : List ℕ) : Type 0 where
+  pub names : (ed : Edition) (next : ℕ) → numberAt (ceilingOf First) s 0 ≡ Value (editionNumber ed) next → editionOf s ≡ ed
+  pub other : (v next : ℕ) → numberAt (ceilingOf First) s 0 ≡ Value v next → ((ed : Edition) → v ≢ editionNumber ed)
+      → tablesBy circles (editionOf s) s .answer ≡ Refused BadEdition 0
+  pub none : (r : Refusal) (p : ℕ) → numberAt (ceilingOf First) s 0 ≡ Fault r p → tablesBy circles (editionOf s) s .answer ≡ Refused r p
+  -- and no edition takes the tables of another
+  pub accepted : (ed : Edition) (at : ℕ) → tablesBy circles ed s .answer ≡ Read at → editionOf s ≡ ed
+
+abbrev pub EditionsTold : Type 0
+EditionsTold = (circles : Circles) (s : List ℕ) → EditionField circles s

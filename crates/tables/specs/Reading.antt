@@ -6,10 +6,12 @@ use mathlib.Core.Bool.{Bool, true, false, cond, _&&_}
 use mathlib.Core.List.{List}
 use lib.ListN.{getD, set, replicate}
 use lib.Dec.{ltb}
-use Rattle.terms.specs.Limits.{edition, mostSagas, mostSteps, mostTransactions, mostObjects, mostDependencies}
+use Rattle.terms.specs.Limits.{mostSagas, mostSteps, mostTransactions, mostObjects, mostDependencies}
 use Rattle.terms.specs.declared.Refusal.{Refusal}
 use Rattle.terms.specs.declared.Refusal.the-variants.{Torn, BadEdition, BadCount, BadDependency, NeverMoves}
-use Rattle.number.specs.Number.{numberWithin, andThen, rowAt}
+use Rattle.number.specs.Number.{ceilingOf, editionNamed, editionNumber, numberAt, numberWithin, andThen, rowAt}
+use Rattle.number.specs.declared.Edition.{Edition}
+use Rattle.number.specs.declared.Edition.the-variants.{First}
 use Rattle.number.specs.declared.Row.{Row}
 use Rattle.number.specs.declared.Field.{Field}
 use Rattle.number.specs.declared.Field.the-variants.{Value, Fault}
@@ -133,10 +135,23 @@ restFrom circles cap s at sum tables =
     (λ m y. andThen (numberWithin cap s y 0 mostDependencies BadCount) refused
     (λ k z. unlessCircle circles y (dependenciesFrom cap s (sum + p) k z (withCounts tables p m)))))
 
--- edition, sagas, and the rest, with circles forbidden or permitted: the tables with the place after them, or a refusal with its place and the empty tables
-unfoldable pub tablesBy : Circles → ℕ → List ℕ → TablesRead
-tablesBy circles cap s =
-    andThen (numberWithin cap s 0 edition edition BadEdition) refused
-    (λ e x. andThen (numberWithin cap s x 0 mostSagas BadCount) refused
-    (λ g y. andThen (sagasFrom cap s g y 0 emptyTables .answer) refused
-    (λ sum z. restFrom circles cap s z sum (sagasFrom cap s g y 0 emptyTables .tables))))
+-- "The edition field itself is always judged under edition 1's ceiling."
+abbrev pub editionCeiling : ℕ
+editionCeiling = ceilingOf First
+
+-- the edition that a book names there; one that names none of them is read as one of edition 1
+unfoldable pub editionOf : List ℕ → Edition
+editionOf s = andThen (numberAt editionCeiling s 0) (λ r p. First) (λ n next. editionNamed n)
+
+-- the edition field of a book of this edition
+abbrev pub editionField : Edition → List ℕ → Field
+editionField ed s = numberWithin editionCeiling s 0 (editionNumber ed) (editionNumber ed) BadEdition
+
+-- edition, sagas, and the rest under the edition's own ceiling, with circles forbidden or permitted: the tables with the place after them, or a refusal with its place
+-- and the empty tables
+unfoldable pub tablesBy : Circles → Edition → List ℕ → TablesRead
+tablesBy circles ed s =
+    andThen (editionField ed s) refused
+    (λ e x. andThen (numberWithin (ceilingOf ed) s x 0 mostSagas BadCount) refused
+    (λ g y. andThen (sagasFrom (ceilingOf ed) s g y 0 emptyTables .answer) refused
+    (λ sum z. restFrom circles (ceilingOf ed) s z sum (sagasFrom (ceilingOf ed) s g y 0 emptyTables .tables))))

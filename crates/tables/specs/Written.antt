@@ -3,7 +3,8 @@
 use Prim.Native.Nat.{ℕ}
 use mathlib.Core.List.{List, [], _∷_, _++_}
 use lib.ListN.{take}
-use Rattle.terms.specs.Limits.{edition}
+use Rattle.number.specs.Number.{editionNumber}
+use Rattle.number.specs.declared.Edition.{Edition}
 use Rattle.tables.specs.Dependencies.{kindNumber}
 use Rattle.tables.specs.Sorts.{sagasOf}
 use Rattle.tables.specs.declared.Dependency.{Dependency}
@@ -19,6 +20,6 @@ entriesFields (x ∷ xs) = entryFields x ++ entriesFields xs
 abbrev pub declaredOf : Tables → List Dependency
 declaredOf tables = take (tables .declared) (tables .dependencies)
 
-abbrev pub tableFields : Tables → List ℕ
-tableFields tables =
-    (edition ∷ tables .sagas ∷ []) ++ (sagasOf tables ++ ((tables .plain ∷ tables .objects ∷ tables .declared ∷ []) ++ entriesFields (declaredOf tables)))
+abbrev pub tableFields : Edition → Tables → List ℕ
+tableFields ed tables =
+    (editionNumber ed ∷ tables .sagas ∷ []) ++ (sagasOf tables ++ ((tables .plain ∷ tables .objects ∷ tables .declared ∷ []) ++ entriesFields (declaredOf tables)))

@@ -1,4 +1,5 @@
 // What a book declares before its events: its sagas, its plain transactions, its objects and the dependencies between transactions.
+use number::Edition;
 use number::Field;
 use number::Number;
 use number::Row;
@@ -15,7 +16,7 @@ ghost use Rattle.tables.specs.Sorts.{placeOf, sortOf, isKnown, isSaga, i
 ghost use Rattle.tables.specs.Counts.{sagaCount, transactionCount, objectCount, dependencyCount};
 ghost use Rattle.tables.specs.Dependencies.{kindNumber, kindOf, mayBase, mayDepend, allowed, risesFrom, risesTo, entryHolds};
 ghost use Rattle.tables.specs.Circles.{isBeginKind, beginLink, hasCircle};
-ghost use Rattle.tables.specs.Reading.{emptyTables, refused, refusedEntry, refusedField, sagasFrom, entryAt, dependenciesFrom, unlessCircle, restFrom, tablesBy};
+ghost use Rattle.tables.specs.Reading.{emptyTables, refused, refusedEntry, refusedField, sagasFrom, entryAt, dependenciesFrom, unlessCircle, restFrom, editionCeiling, editionOf, tablesBy};
 
 // What a dependency asks of its base before its dependent may commit (the first three) or begin.
 pub enum Kind {
@@ -613,18 +614,33 @@ fn rest_from(
     unless_circle(circles, q, read)
 }
 
-// The tables of a book whose numbers go up to `most`, and the place of its first event; or the refusal, with the empty tables.
-pub fn read_tables(book: &[u8], most: usize, circles: Circles) -> TablesRead
-    ensures { λ r. ⌜ r ≡ tablesBy circles most (now (book .entry)) ⌝ }
+// The largest number that the edition field may hold, in a book of any edition.
+fn edition_ceiling() -> usize
+    ensures { λ r. ⌜ r ≡ editionCeiling ⌝ }
 {
-    let e = Number::within(
-        book,
-        0,
-        most,
-        Book::EDITION,
-        Book::EDITION,
-        Refusal::BadEdition,
-    );
+    Edition::First.most() as usize
+}
+
+// The edition that a book names in its first field, which is always read under the ceiling of the first; where it names none, the book is refused as one of the first.
+pub fn edition_of(book: &[u8]) -> Edition
+    ensures { λ r. ⌜ r ≡ editionOf (now (book .entry)) ⌝ }
+{
+    let most = edition_ceiling();
+    let f = Number::at(book, 0, most);
+    match f {
+        Field::Value(n, _) => Edition::named(n),
+        Field::Fault(_, _) => Edition::First,
+    }
+}
+
+// The tables of a book of this edition, and the place of its first event; or the refusal, with the empty tables.
+pub fn read_tables(book: &[u8], edition: Edition, circles: Circles) -> TablesRead
+    ensures { λ r. ⌜ r ≡ tablesBy circles edition (now (book .entry)) ⌝ }
+{
+    let number = edition.number();
+    let low = edition_ceiling();
+    let most = edition.most() as usize;
+    let e = Number::within(book, 0, low, number, number, Refusal::BadEdition);
     let Field::Value(_, p) = e else {
         return stopped_by_field(e);
     };

@@ -2,10 +2,6 @@
 use Prim.Native.Nat.{ℕ}
 use Rattle.terms.specs.declared.Limits.{Limits}
 
--- the edition of the books
-abbrev pub edition : ℕ
-edition = 1
-
 -- a book has at most so many bytes
 abbrev pub mostBytes : ℕ
 mostBytes = 65536
@@ -32,7 +28,6 @@ mostDependencies = 128
 abbrev pub limits : Limits
 limits =
     record {
-      edition = edition;
       bytes = mostBytes;
       sagas = mostSagas;
       steps = mostSteps;

@@ -18,4 +18,4 @@ pub record Documented : Type 0 where
   -- each refusal has the number of its place in the table
   pub refusals : map numberOf refusalTable ≡ 1 ∷ 2 ∷ 3 ∷ 4 ∷ 5 ∷ 6 ∷ 7 ∷ 8 ∷ 9 ∷ 10 ∷ 11 ∷ 12 ∷ 13 ∷ 14 ∷ 15 ∷ 16 ∷ 17 ∷ 18 ∷ 19 ∷ 20 ∷ 21 ∷ 22 ∷ []
   -- "at most 65,536 bytes", 16 sagas of 16 steps, 64 transactions, 32 objects, 128 dependencies
-  pub limits : limits ≡ record { edition = 1; bytes = 65536; sagas = 16; steps = 16; transactions = 64; objects = 32; dependencies = 128 }
+  pub limits : limits ≡ record { bytes = 65536; sagas = 16; steps = 16; transactions = 64; objects = 32; dependencies = 128 }

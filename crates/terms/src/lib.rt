@@ -9,8 +9,6 @@ ghost use Rattle.terms.specs.Refusals.{numberOf, verdictNumber};
 pub struct Book;
 
 impl Book {
-    pub const EDITION: usize = 1;
-
     pub const BYTES: usize = 65536;
 
     pub const SAGAS: usize = 16;
@@ -34,7 +32,6 @@ impl Saga {
 
 // The limits side by side, as a caller may want to show them.
 pub struct Limits {
-    pub edition: usize,
     pub bytes: usize,
     pub sagas: usize,
     pub steps: usize,
@@ -49,7 +46,6 @@ impl Limits {
         ensures { λ r. ⌜ r ≡ limits ⌝ }
     {
         Limits {
-            edition: Book::EDITION,
             bytes: Book::BYTES,
             sagas: Book::SAGAS,
             steps: Saga::STEPS,

@@ -15,11 +15,11 @@ use Rattle.judge.specs.Judge.{rulingOf, stateAfter, judged}
 use Rattle.closing.specs.Closing.{activeStep, toUndo, nextUndo, outstanding, closing}
 use Rattle.items.specs.Items.{codeOf, eventFrom, itemAt, itemsFrom, itemsAfter}
 use Rattle.histories.specs.Histories.{run, taken}
-use Rattle.onward.specs.Onward.{answerIn, eventsIn, judgementBy, judgementOn, placeIn, refusedBy, refusedFrom}
+use Rattle.onward.specs.Onward.{answerIn, eventsIn, judgementBy, judgementOn, placeIn, refusedBy, refusedFrom, recordsFrom}
 use Rattle.listing.specs.Words.{digitsFrom, decimal}
 use Rattle.listing.specs.Lines.{lineCount, laterLine, lineOf, linesFrom, listingOf, noLines}
 use Rattle.worked.specs.Listed.{ListingHolds}
 
 pub listing-holds : ListingHolds
-unfolding anyBelow highest sumTo tabulate orRow pivot closed leadsTo numberAt made changed rewritten tiedTo counts edge tiesOf onRing ringWith dirtyAt dirty mustWait placeOf sortFrom sortOf ownedBy kindOf risesTo entryHolds emptyTables rowFrom numberWithin sagasFrom entryAt beginLink hasCircle dependenciesFrom unlessCircle restFrom tablesBy entered declaredBars rulingOf stateAfter judged activeStep toUndo nextUndo outstanding closing codeOf eventFrom itemAt itemsFrom itemsAfter run taken eventsIn answerIn placeIn refusedFrom judgementOn judgementBy refusedBy digitsFrom decimal lineCount laterLine lineOf noLines linesFrom listingOf
-listing-holds = record { accepted = refl; carried-on = refl; torn = refl }
+unfolding anyBelow highest sumTo tabulate orRow pivot closed leadsTo numberAt made changed rewritten tiedTo counts edge tiesOf onRing ringWith dirtyAt dirty mustWait placeOf sortFrom sortOf ownedBy kindOf risesTo entryHolds emptyTables rowFrom numberWithin sagasFrom entryAt beginLink hasCircle dependenciesFrom unlessCircle restFrom tablesBy entered declaredBars rulingOf stateAfter judged activeStep toUndo nextUndo outstanding closing codeOf eventFrom itemAt itemsFrom itemsAfter run taken eventsIn answerIn placeIn refusedFrom recordsFrom judgementOn judgementBy refusedBy digitsFrom decimal lineCount laterLine lineOf noLines linesFrom listingOf
+listing-holds = record { accepted = refl; carried-on = refl; torn = refl; second-edition = refl }

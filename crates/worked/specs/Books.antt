@@ -6,6 +6,7 @@ use mathlib.Core.List.{List, [], _∷_, _++_}
 use lib.ListN.{length}
 use Rattle.terms.specs.Limits.{mostBytes}
 use Rattle.terms.specs.declared.Verdict.the-variants.{Accepted}
+use Rattle.number.specs.declared.Edition.{Edition}
 use Rattle.tables.specs.Reading.{tablesBy}
 use Rattle.tables.specs.declared.Circles.{Circles}
 use Rattle.tables.specs.declared.TablesAnswer.the-variants.{Read}
@@ -22,15 +23,15 @@ use Rattle.book.specs.Reading.{readingBy}
 
 -- ---- the history of a book (`ReadsRun` joins it to what reading returns)
 
-pub record Kept (circles : Circles) (cap : ℕ) (s : List ℕ) (at : ℕ) : Type 0 where
-  pub any-run : AnyRun (tablesBy circles cap s .tables) (eventsOf circles cap s at)
-  pub when : AcceptedWhen (tablesBy circles cap s .tables) (eventsOf circles cap s at)
-  pub commits : Commits (tablesBy circles cap s .tables) (eventsOf circles cap s at)
-  pub settles : Settles (tablesBy circles cap s .tables) (eventsOf circles cap s at)
-  pub demand : (i : ℕ) → i < tablesBy circles cap s .tables .sagas → Demand (tablesBy circles cap s .tables) i
+pub record Kept (circles : Circles) (ed : Edition) (s : List ℕ) (at : ℕ) : Type 0 where
+  pub any-run : AnyRun (tablesBy circles ed s .tables) (eventsOf circles ed s at)
+  pub when : AcceptedWhen (tablesBy circles ed s .tables) (eventsOf circles ed s at)
+  pub commits : Commits (tablesBy circles ed s .tables) (eventsOf circles ed s at)
+  pub settles : Settles (tablesBy circles ed s .tables) (eventsOf circles ed s at)
+  pub demand : (i : ℕ) → i < tablesBy circles ed s .tables .sagas → Demand (tablesBy circles ed s .tables) i
 
 abbrev pub BooksKept : Type 0
-BooksKept = (circles : Circles) (cap : ℕ) (s : List ℕ) (at : ℕ) → tablesBy circles cap s .answer ≡ Read at → Kept circles cap s at
+BooksKept = (circles : Circles) (ed : Edition) (s : List ℕ) (at : ℕ) → tablesBy circles ed s .answer ≡ Read at → Kept circles ed s at
 
 -- ---- a closing step in bytes
 
@@ -41,34 +42,34 @@ stepBytes (ToCommit t) = 2 ∷ t ∷ []
 stepBytes (ToAbort t) = 3 ∷ t ∷ []
 
 -- what saga i owes after a book
-abbrev pub owedAfter : Circles → ℕ → List ℕ → ℕ → ℕ
-owedAfter circles cap s i = outstanding (readingBy circles cap s .tables) (readingBy circles cap s .state) i
+abbrev pub owedAfter : Circles → Edition → List ℕ → ℕ → ℕ
+owedAfter circles ed s i = outstanding (readingBy circles ed s .tables) (readingBy circles ed s .state) i
 
-abbrev pub stepAfter : Circles → ℕ → List ℕ → ℕ → List ℕ
-stepAfter circles cap s i = stepBytes (closing (readingBy circles cap s .tables) (readingBy circles cap s .state) i)
+abbrev pub stepAfter : Circles → Edition → List ℕ → ℕ → List ℕ
+stepAfter circles ed s i = stepBytes (closing (readingBy circles ed s .tables) (readingBy circles ed s .state) i)
 
 -- a book that is accepted whole, with the closing step of saga i behind it: two bytes, accepted whole again, one event more, and one less is owed
-pub record Behind (circles : Circles) (cap : ℕ) (s : List ℕ) (i : ℕ) : Type 0 where
-  pub two : length (stepAfter circles cap s i) ≡ 2
-  pub accepted : readingBy circles cap (s ++ stepAfter circles cap s i) .answer ≡ Accepted
-  pub events : readingBy circles cap (s ++ stepAfter circles cap s i) .events ≡ readingBy circles cap s .events + 1
-  pub tables : readingBy circles cap (s ++ stepAfter circles cap s i) .tables ≡ readingBy circles cap s .tables
-  pub owes : owedAfter circles cap (s ++ stepAfter circles cap s i) i + 1 ≡ owedAfter circles cap s i
+pub record Behind (circles : Circles) (ed : Edition) (s : List ℕ) (i : ℕ) : Type 0 where
+  pub two : length (stepAfter circles ed s i) ≡ 2
+  pub accepted : readingBy circles ed (s ++ stepAfter circles ed s i) .answer ≡ Accepted
+  pub events : readingBy circles ed (s ++ stepAfter circles ed s i) .events ≡ readingBy circles ed s .events + 1
+  pub tables : readingBy circles ed (s ++ stepAfter circles ed s i) .tables ≡ readingBy circles ed s .tables
+  pub owes : owedAfter circles ed (s ++ stepAfter circles ed s i) i + 1 ≡ owedAfter circles ed s i
 
 -- if the two bytes fit
 abbrev pub ClosingBehind : Type 0
 ClosingBehind =
-    (circles : Circles) (cap : ℕ) → 127 ≤ cap → (s : List ℕ) → readingBy circles cap s .answer ≡ Accepted → length s + 2 ≤ mostBytes
-    → (i : ℕ) → i < readingBy circles cap s .tables .sagas → 0 < owedAfter circles cap s i → Behind circles cap s i
+    (circles : Circles) (ed : Edition) (s : List ℕ) → readingBy circles ed s .answer ≡ Accepted → length s + 2 ≤ mostBytes
+    → (i : ℕ) → i < readingBy circles ed s .tables .sagas → 0 < owedAfter circles ed s i → Behind circles ed s i
 
 -- a book with twice the outstanding bytes free can be closed whole for saga i: some bytes behind it, two for each step, and nothing is owed
-pub record ClosedWhole (circles : Circles) (cap : ℕ) (s : List ℕ) (i : ℕ) : Type 0 where
+pub record ClosedWhole (circles : Circles) (ed : Edition) (s : List ℕ) (i : ℕ) : Type 0 where
   pub rest : List ℕ
-  pub long : length rest ≡ 2 * owedAfter circles cap s i
-  pub accepted : readingBy circles cap (s ++ rest) .answer ≡ Accepted
-  pub nothing : owedAfter circles cap (s ++ rest) i ≡ 0
+  pub long : length rest ≡ 2 * owedAfter circles ed s i
+  pub accepted : readingBy circles ed (s ++ rest) .answer ≡ Accepted
+  pub nothing : owedAfter circles ed (s ++ rest) i ≡ 0
 
 abbrev pub ClosesWhole : Type 0
 ClosesWhole =
-    (circles : Circles) (cap : ℕ) → 127 ≤ cap → (s : List ℕ) → readingBy circles cap s .answer ≡ Accepted
-    → (i : ℕ) → i < readingBy circles cap s .tables .sagas → length s + 2 * owedAfter circles cap s i ≤ mostBytes → ClosedWhole circles cap s i
+    (circles : Circles) (ed : Edition) (s : List ℕ) → readingBy circles ed s .answer ≡ Accepted
+    → (i : ℕ) → i < readingBy circles ed s .tables .sagas → length s + 2 * owedAfter circles ed s i ≤ mostBytes → ClosedWhole circles ed s i

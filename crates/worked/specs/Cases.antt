@@ -4,7 +4,8 @@ use Prim.Native.Nat.{ℕ, zero, suc}
 use mathlib.Core.List.{List, [], _∷_, _++_, map}
 use lib.ListN.{replicate}
 use Rattle.terms.specs.Refusals.{numberOf, verdictNumber}
-use Rattle.number.specs.Number.{numberAt, ceiling1}
+use Rattle.number.specs.declared.Edition.the-variants.{First}
+use Rattle.number.specs.Number.{ceilingOf, numberAt}
 use Rattle.number.specs.declared.Field.{Field}
 use Rattle.number.specs.declared.Field.the-variants.{Value, Fault}
 use Rattle.tables.specs.declared.Circles.the-variants.{Permitted}
@@ -41,8 +42,8 @@ abbrev pub ofReading : Reading → Answer
 ofReading r = said (verdictNumber (r .answer)) (r .events) (r .place) (outstanding (r .tables) (r .state) 0) (closing (r .tables) (r .state) 0)
 
 abbrev pub answerTo : Question → Answer
-answerTo (number s) = ofField (numberAt ceiling1 s 0)
-answerTo (book s) = ofReading (readingOf ceiling1 s)
+answerTo (number s) = ofField (numberAt (ceilingOf First) s 0)
+answerTo (book s) = ofReading (readingOf s)
 
 pub record Case : Type 0 where
   pub question : Question
@@ -132,8 +133,8 @@ refusedBooks =
     []
     -- 3: 80 00 for the edition
     ∷ (0x80 ∷ 0x00 ∷ [])
-    -- 4: edition 2
-    ∷ (0x02 ∷ [])
+    -- 4: edition 3
+    ∷ (0x03 ∷ [])
     -- 5: 17 sagas
     ∷ (0x01 ∷ 0x11 ∷ [])
     -- 6: a transaction depends on itself
@@ -182,10 +183,10 @@ abbrev pub tooLong : List ℕ
 tooLong = replicate 65537 0
 
 pub record NoLineDead : Type 0 where
-  pub by-length : verdictNumber (readingOf ceiling1 tooLong .answer) ≡ 1
-  pub by-books : map (λ (s : List ℕ). verdictNumber (readingOf ceiling1 s .answer)) refusedBooks
+  pub by-length : verdictNumber (readingOf tooLong .answer) ≡ 1
+  pub by-books : map (λ (s : List ℕ). verdictNumber (readingOf s .answer)) refusedBooks
       ≡ 2 ∷ 3 ∷ 4 ∷ 5 ∷ 6 ∷ 7 ∷ 8 ∷ 9 ∷ 10 ∷ 11 ∷ 12 ∷ 13 ∷ 14 ∷ 15 ∷ 16 ∷ 17 ∷ 18 ∷ 20 ∷ 21 ∷ 22 ∷ []
-  pub by-writing : outcomeNumber (writeOutcome ceiling1 nothingDeclared []) ≡ 19
+  pub by-writing : outcomeNumber (writeOutcome nothingDeclared []) ≡ 19
 
 -- ---- tables that can never move, and tables that can
 
@@ -195,20 +196,46 @@ answerOf r = verdictNumber (r .answer) ∷ r .events ∷ r .place ∷ []
 
 pub record CircleCases : Type 0 where
   -- 0 and 1 wait for each other: refused at the dependency count, and read where circles are permitted
-  pub refused : answerOf (readingOf ceiling1 waiting) ≡ 21 ∷ 0 ∷ 4 ∷ []
-  pub permitted : answerOf (readingBy Permitted ceiling1 waiting) ≡ 0 ∷ 0 ∷ 0 ∷ []
+  pub refused : answerOf (readingOf waiting) ≡ 21 ∷ 0 ∷ 4 ∷ []
+  pub permitted : answerOf (readingBy Permitted First waiting) ≡ 0 ∷ 0 ∷ 0 ∷ []
   -- 0 waits for 1 by kind 5, 1 for 2 by kind 7, and 2 for 0 by kind 6: refused
-  pub through-others : answerOf (readingOf ceiling1 (0x01 ∷ 0x00 ∷ 0x03 ∷ 0x00 ∷ 0x03 ∷ 0x00 ∷ 0x01 ∷ 0x05 ∷ 0x01 ∷ 0x02 ∷ 0x07 ∷ 0x02 ∷ 0x00 ∷ 0x06 ∷ [])) ≡ 21 ∷ 0 ∷ 4 ∷ []
+  pub through-others : answerOf (readingOf (0x01 ∷ 0x00 ∷ 0x03 ∷ 0x00 ∷ 0x03 ∷ 0x00 ∷ 0x01 ∷ 0x05 ∷ 0x01 ∷ 0x02 ∷ 0x07 ∷ 0x02 ∷ 0x00 ∷ 0x06 ∷ [])) ≡ 21 ∷ 0 ∷ 4 ∷ []
   -- 0 begins after 1, and 1 doesn't commit when 0 is aborted, kind 3: accepted
-  pub not-by-kind-3 : answerOf (readingOf ceiling1 (0x01 ∷ 0x00 ∷ 0x02 ∷ 0x00 ∷ 0x02 ∷ 0x00 ∷ 0x01 ∷ 0x04 ∷ 0x01 ∷ 0x00 ∷ 0x03 ∷ [])) ≡ 0 ∷ 0 ∷ 0 ∷ []
+  pub not-by-kind-3 : answerOf (readingOf (0x01 ∷ 0x00 ∷ 0x02 ∷ 0x00 ∷ 0x02 ∷ 0x00 ∷ 0x01 ∷ 0x04 ∷ 0x01 ∷ 0x00 ∷ 0x03 ∷ [])) ≡ 0 ∷ 0 ∷ 0 ∷ []
 
 -- ---- committed changes count for order
 
 pub record OrderCases : Type 0 where
   -- 0 reads a; 1 writes a, writes b and commits; 0 reads b: 0 stands before 1 and after it, and cannot commit
-  pub through-committed : answerOf (readingOf ceiling1 (0x01 ∷ 0x00 ∷ 0x02 ∷ 0x02 ∷ 0x00 ∷ 0x01 ∷ 0x00 ∷ 0x01 ∷ 0x01 ∷ 0x04 ∷ 0x00 ∷ 0x00 ∷ 0x00 ∷ 0x04 ∷ 0x01 ∷ 0x00 ∷ 0x01 ∷ 0x04 ∷ 0x01 ∷ 0x01 ∷ 0x01 ∷ 0x02 ∷ 0x01 ∷ 0x04 ∷ 0x00 ∷ 0x01 ∷ 0x00 ∷ 0x02 ∷ 0x00 ∷ [])) ≡ 16 ∷ 7 ∷ 27 ∷ []
-  pub bars-undo : answerOf (readingOf ceiling1 barsUndo) ≡ 22 ∷ 13 ∷ 42 ∷ []
+  pub through-committed : answerOf (readingOf (0x01 ∷ 0x00 ∷ 0x02 ∷ 0x02 ∷ 0x00 ∷ 0x01 ∷ 0x00 ∷ 0x01 ∷ 0x01 ∷ 0x04 ∷ 0x00 ∷ 0x00 ∷ 0x00 ∷ 0x04 ∷ 0x01 ∷ 0x00 ∷ 0x01 ∷ 0x04 ∷ 0x01 ∷ 0x01 ∷ 0x01 ∷ 0x02 ∷ 0x01 ∷ 0x04 ∷ 0x00 ∷ 0x01 ∷ 0x00 ∷ 0x02 ∷ 0x00 ∷ [])) ≡ 16 ∷ 7 ∷ 27 ∷ []
+  pub bars-undo : answerOf (readingOf barsUndo) ≡ 22 ∷ 13 ∷ 42 ∷ []
   -- S begins, T1 writes and commits, S aborts, C1 begins and writes what T1 wrote: a kept change is not waited for
-  pub after-kept : answerOf (readingOf ceiling1 (0x01 ∷ 0x01 ∷ 0x02 ∷ 0x00 ∷ 0x01 ∷ 0x00 ∷ 0x01 ∷ 0x00 ∷ 0x01 ∷ 0x01 ∷ 0x04 ∷ 0x01 ∷ 0x00 ∷ 0x01 ∷ 0x02 ∷ 0x01 ∷ 0x03 ∷ 0x00 ∷ 0x01 ∷ 0x03 ∷ 0x04 ∷ 0x03 ∷ 0x00 ∷ 0x01 ∷ [])) ≡ 0 ∷ 7 ∷ 0 ∷ []
+  pub after-kept : answerOf (readingOf (0x01 ∷ 0x01 ∷ 0x02 ∷ 0x00 ∷ 0x01 ∷ 0x00 ∷ 0x01 ∷ 0x00 ∷ 0x01 ∷ 0x01 ∷ 0x04 ∷ 0x01 ∷ 0x00 ∷ 0x01 ∷ 0x02 ∷ 0x01 ∷ 0x03 ∷ 0x00 ∷ 0x01 ∷ 0x03 ∷ 0x04 ∷ 0x03 ∷ 0x00 ∷ 0x01 ∷ [])) ≡ 0 ∷ 7 ∷ 0 ∷ []
   -- 0 and 1 read a, 1 and 0 read b, 0 commits: reads do not conflict with reads
-  pub reads-apart : answerOf (readingOf ceiling1 (0x01 ∷ 0x00 ∷ 0x02 ∷ 0x02 ∷ 0x00 ∷ 0x01 ∷ 0x00 ∷ 0x01 ∷ 0x01 ∷ 0x04 ∷ 0x00 ∷ 0x00 ∷ 0x00 ∷ 0x04 ∷ 0x01 ∷ 0x00 ∷ 0x00 ∷ 0x04 ∷ 0x01 ∷ 0x01 ∷ 0x00 ∷ 0x04 ∷ 0x00 ∷ 0x01 ∷ 0x00 ∷ 0x02 ∷ 0x00 ∷ [])) ≡ 0 ∷ 7 ∷ 0 ∷ []
+  pub reads-apart : answerOf (readingOf (0x01 ∷ 0x00 ∷ 0x02 ∷ 0x02 ∷ 0x00 ∷ 0x01 ∷ 0x00 ∷ 0x01 ∷ 0x01 ∷ 0x04 ∷ 0x00 ∷ 0x00 ∷ 0x00 ∷ 0x04 ∷ 0x01 ∷ 0x00 ∷ 0x00 ∷ 0x04 ∷ 0x01 ∷ 0x01 ∷ 0x00 ∷ 0x04 ∷ 0x00 ∷ 0x01 ∷ 0x00 ∷ 0x02 ∷ 0x00 ∷ [])) ≡ 0 ∷ 7 ∷ 0 ∷ []
+
+-- ---- both editions
+
+-- the listing's book in edition 2, with the largest record beside its operation
+abbrev pub listedTwo : List ℕ
+listedTwo =
+    0x02 ∷ 0x01 ∷ 0x02 ∷ 0x01 ∷ 0x01 ∷ 0x00 ∷ 0x01 ∷ 0x00 ∷ 0x01 ∷ 0x01 ∷ 0x01 ∷ 0x04 ∷ 0x04 ∷ 0x01 ∷ 0x00 ∷ 0x01 ∷ 0xFF ∷ 0xFF ∷ 0x7F ∷ 0x05 ∷ 0x01 ∷ 0x04 ∷ 0x00 ∷ 0x02
+    ∷ 0x01 ∷ 0x03 ∷ 0x00 ∷ []
+
+abbrev pub outcomeOf : Outcome → List ℕ
+outcomeOf (Wrote n) = 0 ∷ n ∷ []
+outcomeOf (Refuses r events place) = numberOf r ∷ events ∷ place ∷ []
+
+pub record EditionCases : Type 0 where
+  pub accepted : answerOf (readingOf listedTwo) ≡ 0 ∷ 7 ∷ 0 ∷ []
+  -- editions 0 and 3: 4; the bytes of 70,000 in its place: 3, and not 4; a full third group behind edition 2: 3
+  pub no-edition : map (λ (s : List ℕ). answerOf (readingOf s)) ((0x00 ∷ []) ∷ (0x03 ∷ []) ∷ (0xF0 ∷ 0xA2 ∷ 0x04 ∷ []) ∷ (0x02 ∷ 0xFF ∷ 0xFF ∷ 0xFF ∷ []) ∷ [])
+      ≡ (4 ∷ 0 ∷ 0 ∷ []) ∷ (4 ∷ 0 ∷ 0 ∷ []) ∷ (3 ∷ 0 ∷ 0 ∷ []) ∷ (3 ∷ 0 ∷ 1 ∷ []) ∷ []
+  -- 65,536 sagas: no number of edition 1, and a count out of its range in edition 2
+  pub large-count : map (λ (s : List ℕ). answerOf (readingOf s)) ((0x01 ∷ 0x80 ∷ 0x80 ∷ 0x04 ∷ []) ∷ (0x02 ∷ 0x80 ∷ 0x80 ∷ 0x04 ∷ []) ∷ []) ≡ (3 ∷ 0 ∷ 1 ∷ []) ∷ (5 ∷ 0 ∷ 1 ∷ []) ∷ []
+  -- an operation of edition 2 without its record is torn
+  pub no-record : answerOf (readingOf (0x02 ∷ 0x00 ∷ 0x01 ∷ 0x01 ∷ 0x00 ∷ 0x01 ∷ 0x00 ∷ 0x04 ∷ 0x00 ∷ 0x00 ∷ 0x01 ∷ [])) ≡ 2 ∷ 1 ∷ 11 ∷ []
+  -- written: places count in fields, and what three groups cannot say is refused where it stands
+  pub written : map (λ (fs : List ℕ). outcomeOf (writeOutcome fs (replicate 16 0)))
+      ((2 ∷ 0 ∷ 1 ∷ 1 ∷ 0 ∷ 1 ∷ 0 ∷ 4 ∷ 0 ∷ 0 ∷ 1 ∷ 2097151 ∷ []) ∷ (2 ∷ 0 ∷ 1 ∷ 1 ∷ 0 ∷ 1 ∷ 0 ∷ 4 ∷ 0 ∷ 0 ∷ 1 ∷ 2097152 ∷ []) ∷ (1 ∷ 0 ∷ 1 ∷ 1 ∷ 0 ∷ 1 ∷ 70000 ∷ []) ∷ (70000 ∷ []) ∷ (4294967295 ∷ []) ∷ [])
+      ≡ (0 ∷ 14 ∷ []) ∷ (3 ∷ 1 ∷ 11 ∷ []) ∷ (3 ∷ 0 ∷ 6 ∷ []) ∷ (3 ∷ 0 ∷ 0 ∷ []) ∷ (3 ∷ 0 ∷ 0 ∷ []) ∷ []

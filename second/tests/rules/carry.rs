@@ -196,7 +196,7 @@ fn unpacking_writing_and_the_opening_keep_the_old_way() {
     };
     assert_eq!(unpack(&book.0, &mut [0; 99]), Err(at_the_begin(24)));
     assert_eq!(unpack(&book.0, &mut []), Err(at_the_begin(24)));
-    let fields: Vec<u16> = book.0.iter().map(|byte| u16::from(*byte)).collect();
+    let fields: Vec<u32> = book.0.iter().map(|byte| u32::from(*byte)).collect();
     assert_eq!(write(&fields, &mut [0; 99]), Err(at_the_begin(24)));
     assert_eq!(opening(&book.0), &LISTED);
 }

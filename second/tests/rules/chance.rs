@@ -17,7 +17,7 @@ impl Chance {
         ((mixed ^ mixed >> 31) % limit as u64) as usize
     }
 
-    pub fn field(&mut self, limit: usize) -> u16 {
-        self.below(limit) as u16
+    pub fn field(&mut self, limit: usize) -> u32 {
+        self.below(limit) as u32
     }
 }

@@ -5,6 +5,7 @@ mod carry;
 mod chance;
 mod closing;
 mod decided;
+mod edition_2;
 mod left;
 mod line;
 mod moves;

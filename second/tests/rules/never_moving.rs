@@ -222,7 +222,7 @@ fn unpacking_and_writing() {
     assert_eq!(unpack(&book.0, &mut fields), Err(refused(6)));
     assert_eq!(unpack(&book.0, &mut []), Err(refused(6)));
     assert_eq!(fields, [7777; 40]);
-    let list: Vec<u16> = book.0.iter().map(|byte| u16::from(*byte)).collect();
+    let list: Vec<u32> = book.0.iter().map(|byte| u32::from(*byte)).collect();
     let mut bytes = [0xEE; 40];
     assert_eq!(write(&list, &mut bytes), Err(refused(6)));
     assert_eq!(write(&list, &mut []), Err(refused(6)));

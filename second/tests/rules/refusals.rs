@@ -40,7 +40,8 @@ fn number_3_points_at_the_field() {
 #[test]
 fn number_4_edition() {
     assert_eq!(answer(&[0]), (4, 0, 0));
-    assert_eq!(answer(&[2, 0, 0, 0, 0]), (4, 0, 0));
+    assert_eq!(answer(&[3, 0, 0, 0, 0]), (4, 0, 0));
+    assert_eq!(answer(&[0x81, 0x01]), (4, 0, 0));
 }
 
 #[test]

@@ -212,7 +212,7 @@ fn draw(chance: &mut Chance, reading: &Reading) -> Event {
     let operation = chance.field(operations.max(1));
     let holder = match operations {
         0 => transaction,
-        _ => reading.state.responsible(operation.into()) as u16,
+        _ => reading.state.responsible(operation as usize) as u32,
     };
     match chance.below(16) {
         0 => Event::Begin { transaction },

@@ -289,7 +289,7 @@ fn reading_stops_at_it_and_the_opening_ends_before_it() {
     let first_line = format!("book refused 22 {events} {place}\n");
     assert!(second::listing_to_first_refusal(&refused.0).starts_with(&first_line));
     assert_eq!(second::opening(&refused.0), &accepted.0);
-    let fields: Vec<u16> = refused.0.iter().map(|byte| u16::from(*byte)).collect();
+    let fields: Vec<u32> = refused.0.iter().map(|byte| u32::from(*byte)).collect();
     let expected = second::Refused {
         number: 22,
         events,

@@ -24,9 +24,9 @@ fn two_sagas_being_undone() -> Reading {
 }
 
 /// Any transaction, mostly an active one.
-fn draw_transaction(chance: &mut Chance, reading: &Reading) -> u16 {
+fn draw_transaction(chance: &mut Chance, reading: &Reading) -> u32 {
     let active = reading.state.active();
-    let acting: Vec<u16> = (0..64).filter(|t| active >> t & 1 == 1).collect();
+    let acting: Vec<u32> = (0..64).filter(|t| active >> t & 1 == 1).collect();
     match chance.below(5) {
         0 => chance.field(reading.tables.transactions()),
         _ => acting
@@ -39,7 +39,7 @@ fn draw_transaction(chance: &mut Chance, reading: &Reading) -> u16 {
 /// Any event, most often an operation or a delegation. Undos take their time.
 fn draw(chance: &mut Chance, reading: &Reading) -> Event {
     let transaction = draw_transaction(chance, reading);
-    let is_undo = active_undos(reading).any(|undo| undo == usize::from(transaction));
+    let is_undo = active_undos(reading).any(|undo| undo == transaction as usize);
     match chance.below(20) {
         0..=2 => Event::Begin {
             transaction: chance.field(reading.tables.transactions()),
@@ -59,7 +59,7 @@ fn draw(chance: &mut Chance, reading: &Reading) -> Event {
 /// for it.
 fn draw_of_one_operation(chance: &mut Chance, reading: &Reading) -> Event {
     let operation = chance.field(reading.state.operations());
-    let transaction = reading.state.responsible(operation.into()) as u16;
+    let transaction = reading.state.responsible(operation as usize) as u32;
     match chance.below(9) {
         0..=2 => Event::CommitOperation {
             transaction,
@@ -145,8 +145,8 @@ fn would_bar_an_undo(reading: &Reading, event: Event) -> bool {
         } => all.push((
             all.len(),
             Done {
-                by: transaction.into(),
-                object: object.into(),
+                by: transaction as usize,
+                object: object as usize,
                 writes: mark == 1,
             },
         )),
@@ -155,10 +155,10 @@ fn would_bar_an_undo(reading: &Reading, event: Event) -> bool {
             operation,
             ..
         } => {
-            let handed = usize::from(operation);
+            let handed = operation as usize;
             if reading.state.operation_phase(handed) == Phase::Active {
                 for (_, done) in all.iter_mut().filter(|(number, _)| *number == handed) {
-                    done.by = receiver.into();
+                    done.by = receiver as usize;
                 }
             }
         }
@@ -182,7 +182,7 @@ impl Came {
         match event {
             Event::Operation { transaction, .. } => {
                 let mut undos = active_undos(reading);
-                let own = undos.any(|undo| undo == usize::from(transaction));
+                let own = undos.any(|undo| undo == transaction as usize);
                 self.operation += usize::from(!own);
                 self.own_operation += usize::from(own);
                 self.operation_257 += usize::from(reading.state.operations() == 256);
@@ -199,7 +199,7 @@ fn holds_its_promises(reading: &Reading) {
     assert_eq!(report(reading).pairs, rows);
     assert_eq!(undos_on_a_ring(reading, rows), [0; 0]);
     for undo in active_undos(reading) {
-        let transaction = undo as u16;
+        let transaction = undo as u32;
         let commit = Event::Commit { transaction };
         let mut state = reading.state.clone();
         assert_eq!(state.offer(&reading.tables, commit), Ok(()));

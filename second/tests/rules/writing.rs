@@ -11,8 +11,8 @@ fn refused(number: u8, events: usize, place: usize) -> Refused {
     }
 }
 
-fn listed_fields() -> Vec<u16> {
-    LISTED.map(u16::from).to_vec()
+fn listed_fields() -> Vec<u32> {
+    LISTED.map(u32::from).to_vec()
 }
 
 /// A book with fields of one and two bytes: 200 operations, one handed over.
@@ -76,7 +76,7 @@ fn refusals_come_before_19_and_leave_the_room_untouched() {
     assert_eq!(fields, [7777; 40]);
     assert_eq!(unpack(&book, &mut []), Err(refused(13, 7, 24)));
     let mut bytes = [0xEE; 40];
-    let list: Vec<u16> = book.iter().map(|byte| u16::from(*byte)).collect();
+    let list: Vec<u32> = book.iter().map(|byte| u32::from(*byte)).collect();
     assert_eq!(write(&list, &mut bytes), Err(refused(13, 7, 24)));
     assert_eq!(bytes, [0xEE; 40]);
     assert_eq!(write(&list, &mut []), Err(refused(13, 7, 24)));

@@ -21,23 +21,32 @@ same-length c = search needs
 returns : tie.Need-returns Inv-loop μ-loop
 returns c = search needs
 
-mul-low : tie.Need-mul-low Inv-loop μ-loop
-mul-low c = search needs
+mul-at : tie.Need-mul-at Inv-loop μ-loop
+mul-at c = omega arith
 
-shared-slice-read-low : tie.Need-shared-slice-read-low Inv-loop μ-loop
-shared-slice-read-low c = search needs
+shared-slice-read-a : tie.Need-shared-slice-read-a Inv-loop μ-loop
+shared-slice-read-a c = omega arith
 
-mul-high : tie.Need-mul-high Inv-loop μ-loop
-mul-high c = search needs
+add-b : tie.Need-add-b Inv-loop μ-loop
+add-b c = omega arith
 
-add-high : tie.Need-add-high Inv-loop μ-loop
-add-high c = omega arith
+shared-slice-read-b : tie.Need-shared-slice-read-b Inv-loop μ-loop
+shared-slice-read-b c = omega arith
 
-shared-slice-read-high : tie.Need-shared-slice-read-high Inv-loop μ-loop
-shared-slice-read-high c = search needs
+add-c : tie.Need-add-c Inv-loop μ-loop
+add-c c = omega arith
 
-two-requires : tie.Need-two-requires Inv-loop μ-loop
-two-requires c κs = search needs
+shared-slice-read-c : tie.Need-shared-slice-read-c Inv-loop μ-loop
+shared-slice-read-c c = omega arith
+
+add-d : tie.Need-add-d Inv-loop μ-loop
+add-d c = omega arith
+
+shared-slice-read-d : tie.Need-shared-slice-read-d Inv-loop μ-loop
+shared-slice-read-d c = omega arith
+
+four-requires : tie.Need-four-requires Inv-loop μ-loop
+four-requires c κs = search needs
 
 mul-fields : tie.Need-mul-fields Inv-loop μ-loop
 mul-fields c = search needs
@@ -52,7 +61,7 @@ loop-less : tie.Need-loop-less Inv-loop μ-loop
 loop-less c = omega arith
 
 loop-again : tie.Need-loop-again Inv-loop μ-loop
-loop-again c = let l = c .before .before .before .before .before .loop in (omega arith, simp length-set (l .inv .1))
+loop-again c = let l = c .before .before .before .before .before .before .before .loop in (omega arith, simp length-set (l .inv .1))
 
 same-length-2 : tie.Need-same-length-2 Inv-loop μ-loop
 same-length-2 c = search needs
@@ -69,12 +78,15 @@ fields-from-spec =
     loop-holds
     same-length
     returns
-    mul-low
-    shared-slice-read-low
-    mul-high
-    add-high
-    shared-slice-read-high
-    two-requires
+    mul-at
+    shared-slice-read-a
+    add-b
+    shared-slice-read-b
+    add-c
+    shared-slice-read-c
+    add-d
+    shared-slice-read-d
+    four-requires
     mul-fields
     slice-write-fields
     add-i

@@ -1,10 +1,8 @@
 use borrow.Author.Needs.{needs}
 use mathlib.Core.Path.{sym, ap, _∙_}
 use denote.Ref.{now}
-use Rattle.number.specs.Number.{ceiling1}
 use Rattle.tables.specs.declared.Circles.{Circles}
-use Rattle.book.specs.Reading.{readingBy}
-use Rattle.onward.specs.Onward.{judgementTo}
+use Rattle.onward.specs.Onward.{judgementUpTo}
 use Rattle.listing.proofs.judged_to_first_refusal.Statement.{statement}
 use Rattle.listing.proofs.judged_to_first_refusal.Tie as tie
 
@@ -24,12 +22,12 @@ read-to-first-refusal-permitting-circles-requires c κs = search needs
 returns : tie.Need-returns
 returns c =
     let a = c .before .before .before .before .args in
-    c .read-to-first-refusal .ensures ∙ ap (λ (x : Circles). judgementTo (readingBy x ceiling1 (now (a .book)))) (sym (c .before .enum-told .given .1))
+    c .read-to-first-refusal .ensures ∙ ap (λ (x : Circles). judgementUpTo x (now (a .book))) (sym (c .before .enum-told .given .1))
 
 returns-2 : tie.Need-returns-2
 returns-2 c =
     let a = c .before .before .before .before .args in
-    c .read-to-first-refusal-permitting-circles .ensures ∙ ap (λ (x : Circles). judgementTo (readingBy x ceiling1 (now (a .book)))) (sym (c .before .enum-told2 .given .1))
+    c .read-to-first-refusal-permitting-circles .ensures ∙ ap (λ (x : Circles). judgementUpTo x (now (a .book))) (sym (c .before .enum-told2 .given .1))
 
 pub judged-to-first-refusal-spec : {M : Type 1} → statement M
 judged-to-first-refusal-spec =

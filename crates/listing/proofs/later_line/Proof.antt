@@ -28,14 +28,20 @@ mul-op c = search needs
 element-copy-out-op : tie.Need-element-copy-out-op
 element-copy-out-op c = search needs
 
+mul-pupil : tie.Need-mul-pupil
+mul-pupil c = search needs
+
+array-read-pupil : tie.Need-array-read-pupil
+array-read-pupil c = search needs
+
 operation-line-requires : tie.Need-operation-line-requires
 operation-line-requires c κs = search needs
 
 returns-2 : tie.Need-returns-2
 returns-2 c =
-    let a = c .before .before .before .before .before .before .before .before .before .args in
-    let t = c .before .before .before .before .before .transaction-count in
-    let o = c .before .before .before .size in
+    let a = c .before .before .before .before .before .before .before .before .before .before .args in
+    let t = c .before .before .before .before .before .before .transaction-count in
+    let o = c .before .before .before .before .size in
     c .operation-line .ensures
     ∙ ap (withAll []) (sym (later-operation (a .judgement) (a .k) (t .result) (t .ensures) (o .result) (o .ensures) (omega arith) (omega arith)))
 
@@ -60,6 +66,8 @@ later-line-spec =
     size-requires
     mul-op
     element-copy-out-op
+    mul-pupil
+    array-read-pupil
     operation-line-requires
     returns-2
     saga-line-requires

@@ -45,23 +45,27 @@ blank-requires-4 c κs = search needs
 fate-requires : tie.Need-fate-requires
 fate-requires c κs = search needs
 
+beside-requires : tie.Need-beside-requires
+beside-requires c κs = search needs
+
 end-requires : tie.Need-end-requires
 end-requires c κs = search needs
 
 returns : tie.Need-returns
 returns c =
-    first _ (c .before .before .before .before .before .before .before .before .before .before .before .before .empty .ensures)
-    (then _ _ _ (c .before .before .before .before .before .before .before .before .before .before .word .ensures)
-    (then _ _ _ (c .before .before .before .before .before .before .before .before .before .number .ensures)
-    (then _ _ _ (c .before .before .before .before .before .before .before .before .blank .ensures)
-    (then _ _ _ (c .before .before .before .before .before .before .before .number2 .ensures)
-    (then _ _ _ (c .before .before .before .before .before .before .blank2 .ensures)
-    (then _ _ _ (c .before .before .before .before .before .mark .ensures)
-    (then _ _ _ (c .before .before .before .before .blank3 .ensures)
-    (then _ _ _ (c .before .before .before .number3 .ensures)
-    (then _ _ _ (c .before .before .blank4 .ensures)
-    (then _ _ _ (c .before .fate .ensures)
-    (c .end .ensures)))))))))))
+    first _ (c .before .before .before .before .before .before .before .before .before .before .before .before .before .empty .ensures)
+    (then _ _ _ (c .before .before .before .before .before .before .before .before .before .before .before .word .ensures)
+    (then _ _ _ (c .before .before .before .before .before .before .before .before .before .before .number .ensures)
+    (then _ _ _ (c .before .before .before .before .before .before .before .before .before .blank .ensures)
+    (then _ _ _ (c .before .before .before .before .before .before .before .before .number2 .ensures)
+    (then _ _ _ (c .before .before .before .before .before .before .before .blank2 .ensures)
+    (then _ _ _ (c .before .before .before .before .before .before .mark .ensures)
+    (then _ _ _ (c .before .before .before .before .before .blank3 .ensures)
+    (then _ _ _ (c .before .before .before .before .number3 .ensures)
+    (then _ _ _ (c .before .before .before .blank4 .ensures)
+    (then _ _ _ (c .before .before .fate .ensures)
+    (then _ _ _ (c .before .beside .ensures)
+    (c .end .ensures))))))))))))
 
 pub operation-line-spec : {M : Type 1} → statement M
 operation-line-spec =
@@ -81,5 +85,6 @@ operation-line-spec =
     number-requires-3
     blank-requires-4
     fate-requires
+    beside-requires
     end-requires
     returns)

@@ -34,7 +34,7 @@ copy-requires : tie.Need-copy-requires
 copy-requires c κs =
     let a = c .before .before .before .before .args in
     let room = now (a .room) in
-    let all : length (a .text .bytes) ≡ 96 = search needs in (
+    let all : length (a .text .bytes) ≡ 104 = search needs in (
       omega (arith, text-length (a .text) all, c .before .before .size .ensures),
       omega (arith, length-take (length room - a .at) (drop (a .at) room), length-drop (a .at) room),
     )
@@ -48,7 +48,7 @@ returns-2 c =
     let room = now (a .room) in
     let size = c .before .before .before .before .before .size in
     let n = size .result in
-    let all : length (a .text .bytes) ≡ 96 = search needs in (
+    let all : length (a .text .bytes) ≡ 104 = search needs in (
       ap (a .at +_) (size .ensures),
       λ fits.
           ap (putMid (a .at) (length room - a .at) room)

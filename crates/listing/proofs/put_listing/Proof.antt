@@ -3,7 +3,7 @@ use Prim.Native.Nat.{ℕ}
 use mathlib.Core.Path.{ap, _∙_}
 use mathlib.Core.List.{List}
 use denote.Ref.{now}
-use Rattle.number.specs.Number.{ceiling1}
+use Rattle.tables.specs.Reading.{editionOf}
 use Rattle.onward.specs.Onward.{judgementBy}
 use Rattle.onward.specs.declared.Judgement.{Judgement}
 use Rattle.listing.specs.Lines.{listingOf}
@@ -28,7 +28,7 @@ returns c =
     let p = c .before .before .put-whole in
     let all =
     ap (λ (r : Judgement). listingOf r (listed r (a .circles) (now (a .book)))) (c .before .before .before .before .read-by .ensures)
-    ∙ ap (listingOf (judgementBy (a .circles) ceiling1 (now (a .book)))) (all-listed (a .circles) ceiling1 (now (a .book))) in
+    ∙ ap (listingOf (judgementBy (a .circles) (editionOf (now (a .book))) (now (a .book)))) (all-listed (a .circles) (editionOf (now (a .book))) (now (a .book))) in
     (p .ensures .0 ∙ ap (λ (l : List ℕ). putAnswer l room) all, p .ensures .1 ∙ ap (λ (l : List ℕ). putRoom l room) all)
 
 pub put-listing-spec : {M : Type 1} → statement M

@@ -3,6 +3,7 @@ use Prim.Native.Nat.{ℕ}
 use mathlib.Core.Path.{ap, _∙_}
 use mathlib.Core.List.{List}
 use denote.Ref.{now}
+use Rattle.onward.specs.Onward.{judgementUpTo}
 use Rattle.onward.specs.declared.Judgement.{Judgement}
 use Rattle.listing.specs.Lines.{listingOf}
 use Rattle.listing.specs.Texts.{putAnswer, putRoom}
@@ -20,6 +21,7 @@ same-length : tie.Need-same-length
 same-length c = search needs
 
 returns : tie.Need-returns
+unfolding judgementUpTo
 returns c =
     let a = c .before .before .before .before .before .before .before .args in
     let room = now (a .room) in

@@ -6,7 +6,6 @@ use mathlib.Core.List.{List, _++_}
 use lib.ListN.{length, take}
 use denote.Ref.{now}
 use Rattle.terms.specs.Limits.{mostBytes}
-use Rattle.number.specs.Number.{ceiling1}
 use Rattle.items.specs.Items.{itemsAfter}
 use Rattle.tables.specs.declared.Tables.{Tables}
 use Rattle.sheet.specs.Sheet.{Holds}
@@ -24,15 +23,15 @@ use Rattle.listing.proofs.put_no_lines_from.Statement.{statement}
 use Rattle.listing.proofs.put_no_lines_from.Tie as tie
 
 abbrev Inv-loop : tie.InvT-loop
-Inv-loop book start count at room₀ sheet transactions₀ ops₀ cursor₀ left₀ end₀ room transactions ops cursor left end =
+Inv-loop book ed start count at room₀ sheet transactions₀ ops₀ cursor₀ left₀ end₀ room transactions ops cursor left end =
     (length room ≡ length room₀)
     × ((tables : Tables) → Holds tables sheet → length book ≤ mostBytes
-    → Laying at (noLines (take count (refusedFrom tables emptyState 0 (itemsAfter ceiling1 book start)))) room₀ end
-    (noLines (take left (refusedAfter tables ceiling1 book (stateIn transactions ops (cursor .count)) cursor))) room
+    → Laying at (noLines (take count (refusedFrom tables emptyState 0 (itemsAfter ed book start)))) room₀ end
+    (noLines (take left (refusedAfter tables ed book (stateIn transactions ops (cursor .count)) cursor))) room
     × (cursor .index ≤ cursor .place))
 
 abbrev μ-loop : tie.MeasureT-loop
-μ-loop book start count at room₀ sheet transactions₀ ops₀ cursor₀ left₀ end₀ room transactions ops cursor left end =
+μ-loop book ed start count at room₀ sheet transactions₀ ops₀ cursor₀ left₀ end₀ room transactions ops cursor left end =
     left
 
 sheet-of-requires : tie.Need-sheet-of-requires Inv-loop μ-loop
@@ -46,15 +45,15 @@ to-come : (c : tie.After-known-told Inv-loop μ-loop) (tables : Tables) → Hold
     let ops = c .before .before .before .next-refused .last .1 .1 .1 .1 .0 in
     let after = c .before .found .given .0 .1 .0 in
     length (now (a .book)) ≤ mostBytes
-    → Laying (a .at) (noLines (take (a .count) (refusedFrom tables emptyState 0 (itemsAfter ceiling1 (now (a .book)) (a .start))))) (now (a .room)) (l .end)
-    (noLine (c .before .found .given .0 .0) ++ noLines (take (l .left - 1) (refusedAfter tables ceiling1 (now (a .book)) (stateIn ts ops (after .count)) after))) (l .room)
+    → Laying (a .at) (noLines (take (a .count) (refusedFrom tables emptyState 0 (itemsAfter (a .edition) (now (a .book)) (a .start))))) (now (a .room)) (l .end)
+    (noLine (c .before .found .given .0 .0) ++ noLines (take (l .left - 1) (refusedAfter tables (a .edition) (now (a .book)) (stateIn ts ops (after .count)) after))) (l .room)
     × (after .index ≤ after .place)
 to-come c tables h short =
     let a = c .before .before .before .before .before .before .before .before .before .before .before .before .args in
     let l = c .before .before .before .before .before .before .before .before .loop in
     let n = c .before .before .before .next-refused in
     let so = l .inv .1 tables h short in
-    let next = subst (λ (f : Found). Finds tables ceiling1 (now (a .book)) (stateIn (l .transactions) (l .ops) (l .cursor .count)) (l .cursor) f (n .last .1 .1 .1 .0) (n .last .1 .1 .1 .1 .0)) (c .before .found .given .1) (n .ensures tables h short (so .1)) in
+    let next = subst (λ (f : Found). Finds tables (a .edition) (now (a .book)) (stateIn (l .transactions) (l .ops) (l .cursor .count)) (l .cursor) f (n .last .1 .1 .1 .0) (n .last .1 .1 .1 .1 .0)) (c .before .found .given .1) (n .ensures tables h short (so .1)) in
     let some : 0 < l .left = omega arith in
     (laying-same (so .0) (ap (λ (r : List No). noLines (take (l .left) r)) (next .0) ∙ nos-step (l .left) _ _ some), next .1)
 
@@ -63,8 +62,8 @@ loop-holds c =
     let a = c .before .before .before .args in (
       refl,
       λ tables h short. (
-        laying-same (laying-start (a .at) (noLines (take (a .count) (refusedFrom tables emptyState 0 (itemsAfter ceiling1 (now (a .book)) (a .start))))) (now (a .room)))
-            (ap (λ (s : State). noLines (take (a .count) (refusedFrom tables s 0 (itemsAfter ceiling1 (now (a .book)) (a .start))))) (sym empty-in)),
+        laying-same (laying-start (a .at) (noLines (take (a .count) (refusedFrom tables emptyState 0 (itemsAfter (a .edition) (now (a .book)) (a .start))))) (now (a .room)))
+            (ap (λ (s : State). noLines (take (a .count) (refusedFrom tables s 0 (itemsAfter (a .edition) (now (a .book)) (a .start))))) (sym empty-in)),
         omega arith,
       ),
     )
@@ -112,7 +111,7 @@ returns c =
     let n = c .before .before .next-refused in
     let h = c .before .before .before .before .before .before .before .before .sheet-of .ensures (pre .0) in
     let so = l .inv .1 (a .tables) h (pre .1 .0) in
-    let none = subst (λ (x : Found). Finds (a .tables) ceiling1 (now (a .book)) (stateIn (l .transactions) (l .ops) (l .cursor .count)) (l .cursor) x (n .last .1 .1 .1 .0) (n .last .1 .1 .1 .1 .0)) (c .enum-told .given .1) (n .ensures (a .tables) h (pre .1 .0) (so .1)) in
+    let none = subst (λ (x : Found). Finds (a .tables) (a .edition) (now (a .book)) (stateIn (l .transactions) (l .ops) (l .cursor .count)) (l .cursor) x (n .last .1 .1 .1 .0) (n .last .1 .1 .1 .1 .0)) (c .enum-told .given .1) (n .ensures (a .tables) h (pre .1 .0) (so .1)) in
     laying-done (so .0) (nos-none (l .left) none)
 
 same-length-2 : tie.Need-same-length-2 Inv-loop μ-loop

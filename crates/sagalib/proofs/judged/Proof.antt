@@ -1,9 +1,7 @@
 use mathlib.Core.Path.{sym, ap, _∙_}
 use denote.Ref.{now}
-use Rattle.number.specs.Number.{ceiling1}
 use Rattle.tables.specs.declared.Circles.{Circles}
-use Rattle.book.specs.Reading.{readingBy}
-use Rattle.onward.specs.Onward.{judgementTo}
+use Rattle.onward.specs.Onward.{judgementUpTo}
 use Rattle.sagalib.proofs.NumberLaws.{judged-on, judged-to}
 use borrow.Author.Needs.{needs}
 use Rattle.sagalib.proofs.judged.Statement.{statement}
@@ -42,7 +40,7 @@ returns-2 c =
     let a = c .before .before .before .before .before .before .before .args in
     let circles = c .before .before .before .before .before .circles-in in
     c .read-to-first-refusal .ensures
-    ∙ ap (λ (x : Circles). judgementTo (readingBy x ceiling1 (now (a .book)))) (sym (c .before .enum-told .given .1))
+    ∙ ap (λ (x : Circles). judgementUpTo x (now (a .book))) (sym (c .before .enum-told .given .1))
     ∙ judged-to (a .way) (now (a .book)) (circles .result) (circles .ensures) (sym (c .before .before .before .before .reads-on .ensures) ∙ c .before .before .before .if1 .left)
 
 returns-3 : tie.Need-returns-3
@@ -50,7 +48,7 @@ returns-3 c =
     let a = c .before .before .before .before .before .before .before .args in
     let circles = c .before .before .before .before .before .circles-in in
     c .read-to-first-refusal-permitting-circles .ensures
-    ∙ ap (λ (x : Circles). judgementTo (readingBy x ceiling1 (now (a .book)))) (sym (c .before .enum-told2 .given .1))
+    ∙ ap (λ (x : Circles). judgementUpTo x (now (a .book))) (sym (c .before .enum-told2 .given .1))
     ∙ judged-to (a .way) (now (a .book)) (circles .result) (circles .ensures) (sym (c .before .before .before .before .reads-on .ensures) ∙ c .before .before .before .if1 .left)
 
 pub judged-spec : {M : Type 1} → statement M
