@@ -81,6 +81,20 @@ struct saga_step {
   uint64_t outstanding; /* how many steps are left, this one counted: 0 when there is no step */
 };
 
+/* Which book came of mending one. */
+enum saga_book {
+  SAGA_NO_BOOK = 0,   /* none: it was refused */
+  SAGA_OWN_BOOK = 1,  /* the caller's own, with which nothing was wrong */
+  SAGA_ROOM_BOOK = 2  /* the one at the front of the room; the answer's count is how many bytes it has */
+};
+
+/* What came of mending a book. */
+struct saga_mended {
+  uint64_t book;    /* a saga_book */
+  uint64_t dropped; /* how many bytes of the caller's book were dropped */
+  uint64_t added;   /* how many closing steps were added */
+};
+
 /* Reads a book. Reading on, the answer is the refusal that ends the reading (1 to 7 or 21), if there is one; its count is how many events were
    refused by any other and passed over. To the first refusal, the answer is that, and no event is passed over. */
 void saga_read(const uint8_t *book, size_t book_size, uint64_t way, struct saga_answer *answer);
@@ -112,6 +126,13 @@ uint64_t saga_left(const uint8_t *book, size_t book_size, uint64_t way);
    first. Among those that could come next the lowest number does. The answer's count is how many there are, 0 if the tables are refused. 19 is the only
    refusal here, since every book has an order, and it leaves the list as it was. What lies behind the order in the list stays as it was. */
 void saga_replay(const uint8_t *book, size_t book_size, uint64_t way, uint16_t *list, size_t list_size, struct saga_answer *answer);
+
+/* Mends a book. Nothing is wrong with one that is accepted whole, to the first refusal, and whose begun sagas are all settled: it is handed back, whatever the room. Of any other
+   the accepted opening is put at the front of the room, and behind it the closing steps of every begun saga that is not settled, saga after saga; such a book is accepted whole, and
+   mending it hands it back. An event refused in the middle is dropped with all behind it, and transactions that belong to no saga stay open. The answer's events are those kept. Refusals
+   are those of the tables, then 1 if the result would be longer than a book may be, then 19; each leaves the room as it was. A room of SAGA_BOOK_BYTES is never too small. What lies behind
+   the result stays as it was. */
+void saga_mend(const uint8_t *book, size_t book_size, uint8_t *room, size_t room_size, struct saga_answer *answer, struct saga_mended *mended);
 
 /* Puts the fields of a book that is accepted whole at the front of the room; the answer's count is how many there are, never more than the
    book has bytes. Refusals are those of saga_read to the first refusal, then 19; each leaves the room as it was. What lies behind the fields stays as it was. */

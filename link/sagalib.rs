@@ -74,6 +74,21 @@ pub struct Step {
     pub outstanding: u64,
 }
 
+/// The book that came of mending one.
+#[derive(Clone, Copy, Debug, PartialEq, Eq)]
+pub enum Mended<'a> {
+    /// None: it was refused.
+    Refused,
+    /// The caller's own, with which nothing was wrong.
+    Own(&'a [u8]),
+    /// The written part of the room, for which so many bytes of the caller's book were dropped and so many closing steps added.
+    Written {
+        book: &'a [u8],
+        dropped: u64,
+        added: u64,
+    },
+}
+
 mod archive {
     // A slice crosses as a pointer and how many elements it has.
     #[link(name = "sagalib", kind = "static")]
@@ -111,6 +126,14 @@ mod archive {
             list: *mut u16,
             list_size: usize,
             answer: *mut [u64; 4],
+        );
+        pub fn saga_mend(
+            book: *const u8,
+            book_size: usize,
+            room: *mut u8,
+            room_size: usize,
+            answer: *mut [u64; 4],
+            mended: *mut [u64; 3],
         );
         pub fn saga_unpack(
             book: *const u8,
@@ -225,6 +248,37 @@ pub fn replay(book: &[u8], way: Way, list: &mut [u16]) -> Answer {
         )
     };
     answered(answer)
+}
+
+/// Mends a book. Nothing is wrong with one that is accepted whole, to the first refusal, and whose begun sagas are all settled: it is handed back, whatever the
+/// room. Of any other the accepted opening is put at the front of the room, and behind it the closing steps of every begun saga that is not settled, saga after saga; such
+/// a book is accepted whole, and mending it hands it back. An event refused in the middle is dropped with all behind it, and transactions that belong to no saga stay open. The
+/// answer's events are those kept. Refusals are those of the tables, then 1 if the result would be longer than a book may be, then 19; a room of `BOOK_BYTES` is never too small.
+pub fn mend<'a>(book: &'a [u8], room: &'a mut [u8]) -> (Answer, Mended<'a>) {
+    let mut answer = [0; 4];
+    let mut mended = [0; 3];
+    unsafe {
+        archive::saga_mend(
+            book.as_ptr(),
+            book.len(),
+            room.as_mut_ptr(),
+            room.len(),
+            &mut answer,
+            &mut mended,
+        )
+    };
+    let answer = answered(answer);
+    let [which, dropped, added] = mended;
+    let came = match which {
+        1 => Mended::Own(book),
+        2 => Mended::Written {
+            book: &room[..answer.count as usize],
+            dropped,
+            added,
+        },
+        _ => Mended::Refused,
+    };
+    (answer, came)
 }
 
 /// Puts the fields of a book that is accepted whole at the front of the room. There are never more fields than the book has bytes.

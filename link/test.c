@@ -8,6 +8,7 @@ void *memcpy(void *to, const void *from, size_t n);
 
 _Static_assert(sizeof(struct saga_answer) == 4 * sizeof(uint64_t), "an answer is four numbers");
 _Static_assert(sizeof(struct saga_step) == 3 * sizeof(uint64_t), "a step is three numbers");
+_Static_assert(sizeof(struct saga_mended) == 3 * sizeof(uint64_t), "what came of mending is three numbers");
 
 static int differences;
 
@@ -46,6 +47,7 @@ static const uint32_t field_pattern = 0xA5C3A5C3;
 static const uint16_t order_pattern = 0xA5C3;
 static const struct saga_answer no_answer = {77, 77, 77, 77};
 static const struct saga_step no_step = {77, 77, 77};
+static const struct saga_mended no_mended = {77, 77, 77};
 
 static void fill_bytes(uint8_t *room, size_t n) {
   for (size_t i = 0; i < n; i++) room[i] = byte_pattern;
@@ -445,6 +447,42 @@ static void edition_two(void) {
   NOT_WRITTEN(fields, 25, SAGA_BAD_COUNT, 0, 1);
 }
 
+/* Mends a book in a room of so many bytes: which book it is, with the numbers of the answer and of what came of it. */
+static uint8_t mend_room[SAGA_BOOK_BYTES];
+
+static void check_mend(int at, const uint8_t *book, size_t n, size_t size, struct saga_answer told, struct saga_mended came) {
+  struct saga_answer answer = no_answer;
+  struct saga_mended mended = no_mended;
+  fill_bytes(mend_room, sizeof mend_room);
+  saga_mend(book, n, mend_room, size, &answer, &mended);
+  check_answer(at, answer, told.refusal, told.events, told.place, told.count);
+  check(at, mended.book == came.book && mended.dropped == came.dropped && mended.added == came.added, "what came of mending");
+  check(at, bytes_untouched(mend_room, told.count, sizeof mend_room), "behind the mended book");
+}
+
+#define MEND(book, n, size, refusal, events, place, count, which, dropped, added)                 \
+  check_mend(__LINE__, (book), (n), (size), (struct saga_answer){refusal, events, place, count}, \
+             (struct saga_mended){which, dropped, added})
+
+static void mended_books(void) {
+  uint8_t whole[32];
+  memcpy(whole, listed, listed_size);
+  memcpy(whole + 24, "\x01\x03\x02\x03", 4);
+  /* torn in an event: in a large room, in one that just holds it, and not in one that is a byte too small */
+  MEND(listed, 23, sizeof mend_room, 0, 6, 0, 28, SAGA_ROOM_BOOK, 1, 3);
+  CHECK(memcmp(mend_room, whole, 28) == 0);
+  MEND(listed, 23, 28, 0, 6, 0, 28, SAGA_ROOM_BOOK, 1, 3);
+  CHECK(memcmp(mend_room, whole, 28) == 0);
+  MEND(listed, 23, 27, SAGA_NO_ROOM, 6, 0, 0, SAGA_NO_BOOK, 0, 0);
+  /* only not settled, and then whole, whatever the room */
+  MEND(listed, 24, 28, 0, 7, 0, 28, SAGA_ROOM_BOOK, 0, 2);
+  CHECK(memcmp(mend_room, whole, 28) == 0);
+  MEND(whole, 28, sizeof mend_room, 0, 9, 0, 0, SAGA_OWN_BOOK, 0, 0);
+  MEND(whole, 28, 0, 0, 9, 0, 0, SAGA_OWN_BOOK, 0, 0);
+  /* tables */
+  MEND(listed, 4, sizeof mend_room, SAGA_TORN, 0, 4, 0, SAGA_NO_BOOK, 0, 0);
+}
+
 /* A book of 65,536 bytes: two plain transactions hand one operation to and fro. With one byte more it is too long. */
 static uint8_t longest[SAGA_BOOK_BYTES + 1];
 static uint8_t bytes_back[SAGA_BOOK_BYTES + 1];
@@ -501,6 +539,7 @@ int main(void) {
   replayed_in_order();
   unpacked_and_written();
   edition_two();
+  mended_books();
   long_books();
   return differences == 0 ? 0 : 1;
 }

@@ -6,8 +6,8 @@
 mod sagalib;
 
 use sagalib::{
-    left, listing, next, opening, read, refused, replay, unpack, write, Answer, Event, Step, Way,
-    BOOK_BYTES, LISTING_BYTES, MOST_1, MOST_2, TRANSACTIONS,
+    left, listing, mend, next, opening, read, refused, replay, unpack, write, Answer, Event,
+    Mended, Step, Way, BOOK_BYTES, LISTING_BYTES, MOST_1, MOST_2, TRANSACTIONS,
 };
 
 const ON: Way = Way::READ_ON;
@@ -307,6 +307,79 @@ fn closed_step_by_step() {
     assert_eq!(left(&book, ON), 0);
 }
 
+/// Mending a book comes to this one, of so many events kept, bytes dropped and steps added: in a large room, in one that just holds it, and not in one that is a byte
+/// too small. Mending that one hands it back.
+fn comes_whole(torn: &[u8], whole: &[u8], kept: u64, dropped: u64, added: u64) {
+    let size = whole.len();
+    for fits in [BOOK_BYTES, size] {
+        let mut room = vec![BYTE; BOOK_BYTES];
+        let (told, came) = mend(torn, &mut room[..fits]);
+        assert_eq!(told, answer(0, kept, 0, size as u64));
+        assert_eq!(
+            came,
+            Mended::Written {
+                book: whole,
+                dropped,
+                added
+            }
+        );
+        assert!(room[size..].iter().all(|b| *b == BYTE));
+    }
+    is_not_mended(torn, size - 1, answer(19, kept, 0, 0));
+    is_whole(whole, kept + added);
+}
+
+/// Nothing is wrong with a book, whatever the room.
+fn is_whole(book: &[u8], events: u64) {
+    for size in [0, BOOK_BYTES] {
+        let mut room = vec![BYTE; size];
+        let (told, came) = mend(book, &mut room);
+        assert_eq!(told, answer(0, events, 0, 0));
+        assert_eq!(came, Mended::Own(book));
+        assert!(room.iter().all(|b| *b == BYTE));
+    }
+}
+
+/// A book is not mended in a room of so many bytes, which is left as it was.
+fn is_not_mended(book: &[u8], size: usize, refused: Answer) {
+    let mut room = vec![BYTE; size];
+    assert_eq!(mend(book, &mut room), (refused, Mended::Refused));
+    assert!(room.iter().all(|b| *b == BYTE));
+}
+
+fn mended_books() {
+    // torn in an event, refused in the middle, and only not settled
+    let whole = listed_then(&[0x01, 0x03, 0x02, 0x03]);
+    comes_whole(&LISTED[..23], &whole, 6, 1, 3);
+    let refused = listed_then(&[0x01, 0x03, 0x01, 0x03, 0x01, 0x02, 0x02, 0x03]);
+    comes_whole(&refused, &whole, 8, 6, 1);
+    comes_whole(&LISTED, &whole, 7, 0, 2);
+    // a plain transaction stays open, and what is torn behind settled sagas is dropped
+    let torn = listed_then(&[0x01, 0x03, 0x02, 0x03, 0x02]);
+    comes_whole(&torn, &whole, 9, 1, 0);
+    // tables
+    is_not_mended(&LISTED[..4], BOOK_BYTES, answer(2, 0, 4, 0));
+    is_not_mended(&[], BOOK_BYTES, answer(2, 0, 0, 0));
+    is_not_mended(&vec![0; BOOK_BYTES + 1], BOOK_BYTES, answer(1, 0, 0, 0));
+}
+
+/// A saga of one step, and two clerks who hand a change to and fro: with two closing steps the first book is as long as it may be, but for two bytes, and the second is too long.
+fn mended_to_the_limit() {
+    let mut book = vec![
+        0x01, 0x01, 0x01, 0x02, 0x01, 0x00, 0x01, 0x00, 0x01, 0x01, 0x01, 0x02, 0x01, 0x03, 0x04,
+        0x02, 0x00, 0x01,
+    ];
+    while book.len() < 65_530 {
+        book.extend_from_slice(&[0x05, 0x02, 0x03, 0x00, 0x05, 0x03, 0x02, 0x00]);
+    }
+    let whole = [&book[..], &[0x03, 0x00, 0x03, 0x01]].concat();
+    comes_whole(&book, &whole, 16_383, 0, 2);
+    book.extend_from_slice(&[0x05, 0x02, 0x03, 0x00]);
+    for size in [0, BOOK_BYTES] {
+        is_not_mended(&book, size, answer(1, 16_384, 0, 0));
+    }
+}
+
 /// Transaction 1 changes an object and finishes before 0 does the same; 2, which is still active, has kept its read of it.
 const REPLAYED: [u8; 30] = [
     0x01, 0x00, 0x03, 0x01, 0x00, 0x01, 0x01, 0x04, 0x01, 0x00, 0x01, 0x02, 0x01, 0x01, 0x00, 0x04,
@@ -429,6 +502,8 @@ fn all() {
     circles();
     empty_and_torn();
     closed_step_by_step();
+    mended_books();
+    mended_to_the_limit();
     replayed_in_order();
     places_in_fields();
     edition_two();

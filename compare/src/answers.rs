@@ -1,14 +1,15 @@
 //! A case, and what the second program answers to it. Nothing else is needed
 //! for that, so `bin/told.rs` asks wrong judges by these same lines.
 
-use second::{NotRead, Plan};
+use second::{Mended, NotRead, Plan};
 use std::fmt::Write;
 
 /// What is asked: a book to be read, or fields to be written, and the size of
 /// the lent room; or a book to be read with circles permitted in its tables,
 /// which takes no room; or the text of a plan of record moves and a book to
 /// tell them from; or a book to be replayed, and the size of the lent list; or a
-/// book to be read to its first refusal, and with circles permitted too.
+/// book to be read to its first refusal, and with circles permitted too; or a
+/// torn book to be mended, and the size of the lent room.
 #[derive(Clone, Debug, PartialEq, Eq)]
 pub enum Case {
     Book(Vec<u8>, usize),
@@ -18,6 +19,7 @@ pub enum Case {
     Replay(Vec<u8>, usize),
     FirstRefusal(Vec<u8>, usize),
     CirclesFirstRefusal(Vec<u8>),
+    Mend(Vec<u8>, usize),
 }
 
 impl Case {
@@ -31,6 +33,7 @@ impl Case {
             Case::Replay(book, size) => replay_answer(book, *size),
             Case::FirstRefusal(book, room) => first_refusal_answer(book, *room),
             Case::CirclesFirstRefusal(book) => circles_first_refusal_answer(book),
+            Case::Mend(book, room) => mend_answer(book, *room),
         }
     }
 }
@@ -137,4 +140,20 @@ fn replay_answer(book: &[u8], size: usize) -> Vec<u8> {
         Err(refused) => refused_line(refused),
     };
     line.into_bytes()
+}
+
+/// What mending came to, and the bytes of the mended book if it is not the
+/// caller's own.
+fn mend_answer(book: &[u8], room: usize) -> Vec<u8> {
+    let mut bytes = vec![0; room];
+    match second::mend(book, &mut bytes) {
+        Ok(mended @ Mended::Own { .. }) => second::mended_line(mended).into_bytes(),
+        Ok(mended) => {
+            let mut answer = second::mended_line(mended).into_bytes();
+            answer.extend_from_slice(second::mended_book(mended, book, &bytes));
+            answer.push(b'\n');
+            answer
+        }
+        Err(refused) => refused_line(refused).into_bytes(),
+    }
 }

@@ -2,6 +2,7 @@
 
 use crate::answers::Case;
 use crate::books::{book, field_list, is_ordered};
+use crate::mending::torn_books;
 use crate::plans::{planned, Planned};
 
 const MOST_ROOM: usize = 65_536;
@@ -16,6 +17,7 @@ impl Case {
             Case::Replay(..) => b'r',
             Case::FirstRefusal(..) => b'f',
             Case::CirclesFirstRefusal(..) => b'g',
+            Case::Mend(..) => b'd',
         }
     }
 
@@ -26,7 +28,8 @@ impl Case {
             Case::Book(_, room)
             | Case::Fields(_, room)
             | Case::Replay(_, room)
-            | Case::FirstRefusal(_, room) => *room,
+            | Case::FirstRefusal(_, room)
+            | Case::Mend(_, room) => *room,
             Case::CirclesBook(_) | Case::CirclesFirstRefusal(_) => 0,
             Case::Moves(plan, _) => plan.len(),
         }
@@ -38,7 +41,8 @@ impl Case {
             | Case::CirclesBook(book)
             | Case::Replay(book, _)
             | Case::FirstRefusal(book, _)
-            | Case::CirclesFirstRefusal(book) => book.clone(),
+            | Case::CirclesFirstRefusal(book)
+            | Case::Mend(book, _) => book.clone(),
             Case::Fields(fields, _) => fields.iter().flat_map(|f| f.to_le_bytes()).collect(),
             Case::Moves(plan, book) => [&plan[..], book].concat(),
         }
@@ -74,7 +78,8 @@ pub fn heading(index: usize) -> Vec<u8> {
 /// never move, and every eighth, are asked with circles permitted too. Wherever
 /// an event is refused the book is asked in both ways. After
 /// every fourth there is a plan of record moves with a book of its own. Every
-/// fourth, and those laid out for it, are asked for the order to replay in too.
+/// fourth, and those laid out for it, are asked for the order to replay in too,
+/// and every fourth and those laid out for it are mended.
 pub fn made(seed: u64, count: u64) -> Vec<Case> {
     let mut cases = Vec::new();
     for index in 0..count {
@@ -95,6 +100,9 @@ pub fn made(seed: u64, count: u64) -> Vec<Case> {
         }
         for size in list_sizes(index, second::replay_order(&reading).len()) {
             cases.push(Case::Replay(bytes.clone(), size));
+        }
+        for (torn, room) in torn_books(seed, index) {
+            cases.push(Case::Mend(torn, room));
         }
         if index.is_multiple_of(4) {
             let fields = field_list(seed, index);
@@ -163,6 +171,7 @@ fn fixed_case(line: &str) -> Option<Case> {
         ("c", None) => Some(Case::CirclesBook(numbers(words, byte)?)),
         ("r", Some(size)) => Some(Case::Replay(numbers(words, byte)?, size)),
         ("f", _) => Some(Case::FirstRefusal(numbers(words, byte)?, lent)),
+        ("d", _) => Some(Case::Mend(numbers(words, byte)?, lent)),
         ("g", None) => Some(Case::CirclesFirstRefusal(numbers(words, byte)?)),
         _ => None,
     }
@@ -250,7 +259,7 @@ mod tests {
     fn a_line_of_the_fixed_cases() {
         let text = "# not this\n\nb 01 x2 0A /3\nw 7 300\nc 01 x2 FF x1 03 04\n\
                     m \"move A/B\\n\" x2 \"x\\t\" \"#\\r\" x1 \"\\x7Cz\\x22\" | 01 x2 0F\nm | 01\n\
-                    r 01 x2 0A /0\nf 01 x2 0A /3\nf 02\ng 02 x2 07\n";
+                    r 01 x2 0A /0\nf 01 x2 0A /3\nf 02\ng 02 x2 07\nd x2 0A /3\nd 01\n";
         let cases = fixed(text).unwrap();
         assert_eq!(
             cases,
@@ -264,6 +273,8 @@ mod tests {
                 Case::FirstRefusal(vec![1, 10, 10], 3),
                 Case::FirstRefusal(vec![2], MOST_ROOM),
                 Case::CirclesFirstRefusal(vec![2, 7, 7]),
+                Case::Mend(vec![10, 10], 3),
+                Case::Mend(vec![1], MOST_ROOM),
             ]
         );
     }
@@ -273,7 +284,7 @@ mod tests {
         let text = include_str!("../fixed.txt");
         let lines = text
             .lines()
-            .filter(|line| line.starts_with(['b', 'w', 'c', 'm', 'r', 'f', 'g']));
+            .filter(|line| line.starts_with(['b', 'w', 'c', 'm', 'r', 'f', 'g', 'd']));
         assert_eq!(fixed(text).map(|cases| cases.len()), Ok(lines.count()));
     }
 
@@ -291,6 +302,7 @@ mod tests {
             "r 1G /3",
             "f 1G",
             "g 01 /3",
+            "d 1G",
             "m 01",
             "m | 1G",
             "m \"move\" 01 | 01",
@@ -314,9 +326,10 @@ mod tests {
             Case::Replay(vec![3], 260),
             Case::FirstRefusal(vec![4], 5),
             Case::CirclesFirstRefusal(vec![6, 7]),
+            Case::Mend(vec![8], 258),
         ];
         let asked = [
-            &[7, 0, 0][..],
+            &[8, 0, 0][..],
             &[b'b', 2, 0, 0, 1, 0, 0, 9],
             &[b'w', 0, 0, 1, 8, 0, 0, 2, 1, 0, 0, 1, 2, 3, 4],
             &[b'c', 0, 0, 0, 2, 0, 0, 7, 8],
@@ -326,6 +339,7 @@ mod tests {
             &[b'r', 4, 1, 0, 1, 0, 0, 3],
             &[b'f', 5, 0, 0, 1, 0, 0, 4],
             &[b'g', 0, 0, 0, 2, 0, 0, 6, 7],
+            &[b'd', 2, 1, 0, 1, 0, 0, 8],
         ];
         assert_eq!(question(&cases), asked.concat());
     }
@@ -449,6 +463,18 @@ mod tests {
     }
 
     #[test]
+    fn answers_of_a_torn_book() {
+        let answer = |book: &[u8], room| Case::Mend(book.to_vec(), room).answer();
+        // A saga of one step is begun, then half an event.
+        let torn = [1, 1, 1, 0, 0, 0, 1, 0, 1];
+        let mended = b"mended 10 1 1 1\n\x01\x01\x01\0\0\0\x01\0\x03\0\n";
+        assert_eq!(answer(&torn, 10), mended);
+        assert_eq!(answer(&torn, 9), b"refused 19 1 0\n");
+        assert_eq!(answer(&torn[..6], 0), b"own 0\n");
+        assert_eq!(answer(&torn[..5], 10), b"refused 2 0 5\n");
+    }
+
+    #[test]
     fn lists_are_lent_in_all_sizes() {
         let mut sizes = [0; 4];
         for case in made(1, 400) {
@@ -465,11 +491,15 @@ mod tests {
     }
 
     #[test]
-    fn about_a_ninth_of_the_cases_are_plans() {
+    fn about_a_sixteenth_of_the_cases_are_plans() {
         let cases = made(1, 400);
         let plans = cases.iter().filter(|case| case.letter() == b'm').count();
         assert_eq!(plans, 100);
-        assert!((8..=10).contains(&(cases.len() / plans)));
+        assert!(
+            (14..=18).contains(&(cases.len() / plans)),
+            "{}",
+            cases.len()
+        );
     }
 
     #[test]

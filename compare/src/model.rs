@@ -616,6 +616,69 @@ impl Model {
         order
     }
 
+    /// What all sagas still owe together.
+    pub fn left(&self) -> usize {
+        let sagas = self.sagas().into_iter();
+        sagas
+            .map(|(saga, steps)| self.outstanding(saga, steps))
+            .sum()
+    }
+
+    /// What a saga of so many steps still owes.
+    pub fn outstanding(&self, saga: usize, steps: usize) -> usize {
+        let is = |t: usize, phase: Phase| self.phases[t] == phase;
+        if is(saga, Phase::Idle) || is(saga, Phase::Committed) {
+            return 0;
+        }
+        if is(saga + steps, Phase::Committed) && is(saga, Phase::Active) {
+            return 1;
+        }
+        let mut owed = 0;
+        if is(saga, Phase::Active) {
+            owed += 1;
+        }
+        if (1..=steps).any(|i| is(saga + i, Phase::Active)) {
+            owed += 1;
+        }
+        for i in (1..steps).filter(|i| is(saga + i, Phase::Committed)) {
+            owed += match self.phases[saga + steps + i] {
+                Phase::Idle => 2,
+                Phase::Active => 1,
+                Phase::Committed => 0,
+                Phase::Aborted => unreachable!("an undo can't abort"),
+            };
+        }
+        owed
+    }
+
+    /// The closing step of a saga of so many steps; none if it owes nothing.
+    pub fn closing_step(&self, saga: usize, steps: usize) -> Option<Event> {
+        if self.outstanding(saga, steps) == 0 {
+            return None;
+        }
+        let is = |t: usize, phase: Phase| self.phases[t] == phase;
+        if is(saga, Phase::Active) {
+            let done = is(saga + steps, Phase::Committed);
+            let whole = saga as u32;
+            return Some(if done {
+                Event::Commit(whole)
+            } else {
+                Event::Abort(whole)
+            });
+        }
+        if let Some(i) = (1..=steps).find(|i| is(saga + i, Phase::Active)) {
+            return Some(Event::Abort((saga + i) as u32));
+        }
+        let mut falling = (1..steps).rev();
+        let i = falling
+            .find(|i| is(saga + i, Phase::Committed) && !is(saga + steps + i, Phase::Committed))?;
+        let undo = (saga + steps + i) as u32;
+        Some(match self.phases[saga + steps + i] {
+            Phase::Active => Event::Commit(undo),
+            _ => Event::Begin(undo),
+        })
+    }
+
     /// Takes in an event with the verdict 0.
     pub fn take(&mut self, event: Event) {
         match event {

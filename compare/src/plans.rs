@@ -51,7 +51,7 @@ fn book_with_sagas(random: &mut Random) -> Option<Draft> {
 
 /// A story up to some place, where some sagas are given up and a few events
 /// follow.
-fn left_on_its_way(random: &mut Random, whole: &Story) -> Story {
+pub fn left_on_its_way(random: &mut Random, whole: &Story) -> Story {
     let Draft { tables, events } = &whole.draft;
     let mut story = Story::new(tables.clone());
     let place = random.below(events.len() + 1);

@@ -133,6 +133,13 @@ impl Story {
         }
     }
 
+    /// Goes on by the next event of some saga, if there is one.
+    pub fn move_a_saga(&mut self, random: &mut Random) {
+        if let Some(event) = draw_saga_event(random, &self.model) {
+            self.go_on_with(event);
+        }
+    }
+
     /// Goes on by about so many events; much of what is done is committed.
     pub fn settle(&mut self, random: &mut Random, events: usize) {
         for _ in 0..events {
@@ -475,6 +482,13 @@ mod tests {
             }
             assert_eq!(second::report(&reading).pairs, model.pairs());
             assert_eq!(reading.state.left(), sum_over_sagas(&reading), "{event:?}");
+            assert_eq!(reading.state.left(), model.left(), "{event:?}");
+            for (index, (saga, steps)) in model.sagas().into_iter().enumerate() {
+                let closing = second::closing(&reading, index);
+                let fields = closing.map(|(code, t)| vec![code.into(), t as u32]);
+                let by_model = model.closing_step(saga, steps).map(Event::fields);
+                assert_eq!(fields, by_model, "{event:?}");
+            }
         }
     }
 

@@ -1,7 +1,7 @@
 //! The commands of the second program. Books come from standard input, and
 //! nothing is written to standard output before the whole answer stands.
 
-use second::{Plan, Reading, Refused, MOST_BYTES};
+use second::{Mended, Plan, Reading, Refused, MOST_BYTES};
 use std::ffi::{OsStr, OsString};
 use std::fmt::Write as _;
 use std::fs::{self, File};
@@ -12,7 +12,7 @@ use std::process::ExitCode;
 use std::time::{Duration, Instant};
 
 const USAGE: &str = "usage: second listing | opening | unpack [ROOM] | write [ROOM] | pairs | left
-       second replay [ROOM]
+       second replay [ROOM] | mend [ROOM]
        second circles-listing | circles-opening
        second first-refusal | circles-first-refusal
        second moves PLAN
@@ -69,6 +69,7 @@ fn answer(arguments: &[OsString]) -> Result<Vec<u8>, String> {
             Ok(second::left_line(&reading).into_bytes())
         }
         (Some("replay"), room @ ([] | [_])) => replay(room_size(room)?),
+        (Some("mend"), room @ ([] | [_])) => mend(room_size(room)?),
         (Some("moves"), [plan]) => moves(Path::new(plan)),
         (Some("listings"), [folder]) => listings(Path::new(folder)),
         (Some("measure"), [file, times]) => measure(Path::new(file), number(times)?),
@@ -163,8 +164,12 @@ fn field(word: &str) -> Result<u32, String> {
 }
 
 fn written_lines(bytes: &[u8]) -> Vec<u8> {
+    format!("written {}\n{}", bytes.len(), hex_line(bytes)).into_bytes()
+}
+
+fn hex_line(bytes: &[u8]) -> String {
     let hex: Vec<String> = bytes.iter().map(|byte| format!("{byte:02X}")).collect();
-    format!("written {}\n{}\n", bytes.len(), hex.join(" ")).into_bytes()
+    format!("{}\n", hex.join(" "))
 }
 
 fn pairs(reading: &Reading) -> Vec<u8> {
@@ -185,6 +190,19 @@ fn replay(room_size: usize) -> Result<Vec<u8>, String> {
         Ok(count) => {
             let order = list[..count].iter().map(|t| usize::from(*t));
             second::replay_line(order).into_bytes()
+        }
+        Err(refused) => refused_line(refused),
+    })
+}
+
+fn mend(room_size: usize) -> Result<Vec<u8>, String> {
+    let book = book_from_input()?;
+    let mut room = vec![0; room_size];
+    Ok(match second::mend(&book, &mut room) {
+        Ok(mended @ Mended::Own { .. }) => second::mended_line(mended).into_bytes(),
+        Ok(mended) => {
+            let hex = hex_line(second::mended_book(mended, &book, &room));
+            [second::mended_line(mended), hex].concat().into_bytes()
         }
         Err(refused) => refused_line(refused),
     })

@@ -215,6 +215,23 @@ fn edition_2() {
 }
 
 #[test]
+fn mend() {
+    let mended = "mended 28 7 0 2\n01 01 02 01 01 00 01 00 01 01 01 04 \
+                  04 01 00 01 05 01 04 00 02 01 03 00 01 03 02 03\n";
+    answers(&["mend"], &LISTED, mended);
+    answers(&["mend", "28"], &LISTED, mended);
+    answers(&["mend", "27"], &LISTED, "refused 19 7 0\n");
+    let settled = [&LISTED[..], &[1, 3, 2, 3]].concat();
+    answers(&["mend"], &settled, "own 9\n");
+    answers(&["mend", "0"], &settled, "own 9\n");
+    let torn = [1, 0, 0, 0, 0, 4];
+    answers(&["mend"], &torn, "mended 5 0 1 0\n01 00 00 00 00\n");
+    answers(&["mend"], &[], "refused 2 0 0\n");
+    answers(&["mend"], &[1; 70_000], "refused 1 0 0\n");
+    complains(&["mend", "many"], &LISTED);
+}
+
+#[test]
 fn left() {
     answers(&["left"], &LISTED, "left 2\n");
     answers(&["left"], &LISTED[..23], "left 3\n");

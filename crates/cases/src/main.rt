@@ -5,8 +5,8 @@
 // the room. 'c' is a book whose begin dependencies may go round in a circle: the same without its fields. 'f' and 'g' are the same as 'b' and 'c', read to the first
 // refusal. 'r' is a book too, and the order to replay in is put into the room. 'w' is a list of fields, two bytes each, low byte first: what
 // writing them into the room answers. 'm' is a plan as staff write it, as long as the number says that stands for a room, and a book behind it: what
-// the program `recordmove` prints of them, or the number of the line that is not understood. It stops at the end of the input or where that is torn. A case that was
-// not read gets no answer, and what was not read, written or understood is said on standard error.
+// the program `recordmove` prints of them, or the number of the line that is not understood. 'd' is a book, mended into the room: its own, or the bytes written. It stops
+// at the end of the input or where that is torn. A case that was not read gets no answer, and what was not read, written or understood is said on standard error.
 use book::Outcome;
 use input::Filled;
 use libc::STDERR_FILENO;
@@ -14,6 +14,7 @@ use libc::STDIN_FILENO;
 use libc::STDOUT_FILENO;
 use listing::Listing;
 use listing::Put;
+use mend::Mending;
 use onward::Judgement;
 use replay::Copied;
 use tables::Circles;
@@ -225,6 +226,25 @@ fn answer_write(fields: &[u32], room: &mut [u8]) {
     }
 }
 
+// What mending a book into a room answers.
+fn answer_mend(bytes: &[u8], room: &mut [u8]) {
+    match mend::mend(bytes, room) {
+        Mending::Own(kept) => say_count(b"own", kept),
+        Mending::Wrote(n, kept, dropped, added) => {
+            say(b"mended");
+            then_number(n);
+            then_number(kept);
+            then_number(dropped);
+            say_count(b"", added);
+            if n <= room.len() {
+                say(&room[..n]);
+                say(b"\n");
+            }
+        }
+        Mending::Refuses(refusal, kept, place) => say_refused(refusal, kept, place),
+    }
+}
+
 // A number of three bytes, low byte first.
 fn three(low: u8, middle: u8, high: u8) -> usize {
     low as usize | (middle as usize) << 8 | (high as usize) << 16
@@ -283,6 +303,14 @@ fn write_case(bytes: &[u8], size: usize) {
     answer_write(&fields[..n], &mut room[..size]);
 }
 
+fn mend_case(bytes: &[u8], size: usize) {
+    let mut room = [0u8; 65536];
+    if 65536 < size {
+        return;
+    }
+    answer_mend(bytes, &mut room[..size]);
+}
+
 // A plan, and a book behind it.
 fn move_case(bytes: &[u8], size: usize) {
     if bytes.len() < size {
@@ -310,6 +338,8 @@ fn answer(letter: u8, bytes: &[u8], size: usize) {
         replay_case(bytes, size);
     } else if letter == b'm' {
         move_case(bytes, size);
+    } else if letter == b'd' {
+        mend_case(bytes, size);
     } else {
         book_case(Way::On, bytes, size);
     }

@@ -111,6 +111,13 @@ module _ (tables : Tables) (well : Well tables) (i : ℕ) (low : i < tables .sag
       .0
       (close-one s h .nothing-owed)
 
+  -- others' events leave what it owes
+  owes-same : (s : State) (fs : List Event) → Good tables i s → allForeign f n fs ≡ true → outstanding tables (run tables s fs) i ≡ outstanding tables s i
+  owes-same s fs h a =
+      out-is tables well i low (run tables s fs)
+      ∙ out-same f n (ownOf tables s i) (ownOf tables (run tables s fs) i) (alike tables well i low fs s h a) (has-step tables well i low)
+      ∙ sym (out-is tables well i low s)
+
   -- what is settled stays so after others' events
   stays-settled : (s : State) (fs : List Event) → Good tables i s → allForeign f n fs ≡ true → settled tables s i ≡ true → settled tables (run tables s fs) i ≡ true
   stays-settled s fs h a z =
@@ -147,6 +154,7 @@ module _ (tables : Tables) (well : Well tables) (s : State) (good : (i : ℕ) �
     earlier : (i : ℕ) → k ≤ i → allForeign (firstOf tables i) (stepsOf tables i) l ≡ true
     all-taken : taken tables s l ≡ l
     all-settled : (i : ℕ) → i < k → ownOf tables s i 0 ≢ Idle → settled tables (run tables s l) i ≡ true
+    none-owes : (i : ℕ) → i < k → outstanding tables (run tables s l) i ≡ 0
 
   close-more : (k : ℕ) (l : List Event) → k < tables .sagas → AllClosed k l → AllClosed (suc k) (l ++ closeOne tables k (run tables s l))
   unfolding owedBelow
@@ -155,9 +163,7 @@ module _ (tables : Tables) (well : Well tables) (s : State) (good : (i : ℕ) �
       let steps : List Event = closeOne tables k now in
       let here : Good tables k now = good-run tables well k low l s (good k low) in
       let one = close-one tables well k low now here in
-      let same = alike tables well k low l s (good k low) (c .earlier k (omega arith)) in
-      let owes : outstanding tables now k ≡ outstanding tables s k =
-      out-is tables well k low now ∙ out-same (firstOf tables k) (stepsOf tables k) (ownOf tables s k) (ownOf tables now k) same (has-step tables well k low) ∙ sym (out-is tables well k low s) in
+      let owes : outstanding tables now k ≡ outstanding tables s k = owes-same tables well k low s l (good k low) (c .earlier k (omega arith)) in
       record {
         together = length-append l steps ∙ ap₂ _+_ (c .together) (one .many ∙ owes);
         earlier = λ i h. foreign-append (firstOf tables i) (stepsOf tables i) l steps (c .earlier i (omega arith))
@@ -175,11 +181,21 @@ module _ (tables : Tables) (well : Well tables) (s : State) (good : (i : ℕ) �
             let listed : i < tables .sagas = omega arith in
             stays-settled tables well i listed now steps (good-run tables well i listed l s (good i listed))
             (one .elsewhere (firstOf tables i) (stepsOf tables i) (apart tables i k below)) (c .all-settled i below b));
+        none-owes = λ i h.
+            ap (λ (x : State). outstanding tables x i) (run-append tables l steps s)
+            ∙ same-or i k
+            (λ e. subst (λ (x : ℕ). outstanding tables (run tables now steps) x ≡ 0) (sym e) (one .nothing-owed))
+            (λ e.
+            let below : i < k = omega arith in
+            let listed : i < tables .sagas = omega arith in
+            owes-same tables well i listed now steps (good-run tables well i listed l s (good i listed))
+            (one .elsewhere (firstOf tables i) (stepsOf tables i) (apart tables i k below))
+            ∙ c .none-owes i below);
       }
 
   close-each : (k : ℕ) → k ≤ tables .sagas → AllClosed k (closeAll tables s k)
   unfolding closeAll taken owedBelow allForeign
-  close-each zero h = record { together = refl; earlier = λ i l. refl; all-taken = refl; all-settled = λ i l. absurd (omega arith) }
+  close-each zero h = record { together = refl; earlier = λ i l. refl; all-taken = refl; all-settled = λ i l. absurd (omega arith); none-owes = λ i l. absurd (omega arith) }
   close-each (suc k) h = close-more k (closeAll tables s k) h (close-each k (omega arith))
 
 pub closing-settles : ClosingSettles
@@ -193,6 +209,7 @@ closing-settles tables well es =
           (c .many, c .all-taken, settles tables well i low (reached tables es) (good i low) b);
       sum = every .together;
       all = (every .all-taken, every .all-settled);
+      over = every .none-owes;
     }
 
 pub closing-settles-read : ClosingSettlesRead

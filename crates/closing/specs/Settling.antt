@@ -56,6 +56,8 @@ pub record Settles (tables : Tables) (es : List Event) : Type 0 where
   pub all : (taken tables (reached tables es) (closeAll tables (reached tables es) (tables .sagas)) ≡ closeAll tables (reached tables es) (tables .sagas))
       × ((i : ℕ) → i < tables .sagas → ownOf tables (reached tables es) i 0 ≢ Idle →
       settled tables (run tables (reached tables es) (closeAll tables (reached tables es) (tables .sagas))) i ≡ true)
+  -- and no saga owes anything then, begun or not
+  pub over : (i : ℕ) → i < tables .sagas → outstanding tables (run tables (reached tables es) (closeAll tables (reached tables es) (tables .sagas))) i ≡ 0
 
 -- for all well-formed tables
 abbrev pub ClosingSettles : Type 0

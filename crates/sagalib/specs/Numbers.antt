@@ -28,6 +28,8 @@ use Rattle.listing.specs.Lines.{listingOf}
 use Rattle.listing.specs.Texts.{putAnswer}
 use Rattle.listing.specs.declared.Put.{Put}
 use Rattle.listing.specs.declared.Put.the-variants.{Wrote as WroteListing, NoRoom as NoRoomForListing}
+use Rattle.mend.specs.declared.Mending.{Mending}
+use Rattle.mend.specs.declared.Mending.the-variants.{Own, Wrote as WroteMended, Refuses as RefusesMending}
 
 -- reading in the old way, to the first refusal, as unpacking, writing and the accepted opening go by it
 abbrev pub reading : List ℕ → Reading
@@ -91,6 +93,19 @@ orderIn way s = orderOf (judged way s .state .ops)
 
 unfoldable pub replayNumbers : ℕ → List ℕ → List ℕ → List ℕ
 replayNumbers way s room = outcomeNumbers (judged way s .events) (orderOutcome (judged way s .events) (copyAnswer (orderIn way s) room))
+
+-- mending, with how many bytes were written: none where the caller's own book is handed back
+abbrev pub mendNumbers : Mending → List ℕ
+mendNumbers (Own kept) = four 0 kept 0 0
+mendNumbers (WroteMended n kept dropped added) = four 0 kept 0 n
+mendNumbers (RefusesMending r kept place) = four (numberOf r) kept place 0
+
+-- ---- the three numbers of a mended book: none (0), the caller's own (1) or the one at the front of the room (2); the bytes dropped; and the steps added
+
+abbrev pub mendedNumbers : Mending → List ℕ
+mendedNumbers (Own kept) = 1 ∷ 0 ∷ 0 ∷ []
+mendedNumbers (WroteMended n kept dropped added) = 2 ∷ dropped ∷ added ∷ []
+mendedNumbers (RefusesMending r kept place) = 0 ∷ 0 ∷ 0 ∷ []
 
 -- ---- the three numbers of a closing step: its event as a book has it ("1 begin t; 2 commit t; 3 abort t"), 0 if there is none; its
 -- transaction; and the number outstanding

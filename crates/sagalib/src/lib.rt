@@ -8,19 +8,22 @@
 use book::Outcome;
 use closing::NextStep;
 use listing::Put;
+use mend::Mending;
 use onward::Judgement;
 use replay::Copied;
 use tables::Circles;
 use terms::Refusal;
 ghost use mathlib.Core.Path.{_≡_};
 ghost use lib.ListN.{length};
+ghost use Rattle.tables.specs.Reading.{editionOf};
 ghost use Rattle.left.specs.Left.{leftIn};
 ghost use Rattle.replay.specs.Replay.{copyRoom};
 ghost use Rattle.book.specs.Reading.{openingOf};
 ghost use Rattle.book.specs.Packing.{unpackedRoom, writtenRoom};
 ghost use Rattle.onward.specs.Onward.{fitting, listedIn};
 ghost use Rattle.listing.specs.Texts.{putRoom};
-ghost use Rattle.sagalib.specs.Numbers.{readsOn, circlesIn, judged, refusedIn, readNumbers, outcomeNumbers, unpackNumbers, writeNumbers, listingIn, listingOutcome, listingNumbers, orderOutcome, orderIn, replayNumbers, stepNumbers, nextNumbers};
+ghost use Rattle.mend.specs.Mend.{mendedRoom, mendingOf};
+ghost use Rattle.sagalib.specs.Numbers.{readsOn, circlesIn, judged, refusedIn, readNumbers, outcomeNumbers, unpackNumbers, writeNumbers, listingIn, listingOutcome, listingNumbers, orderOutcome, orderIn, replayNumbers, stepNumbers, nextNumbers, mendNumbers, mendedNumbers};
 
 // The answer after writing for a book of so many accepted events; a refusal says by itself how many it came after.
 fn outcome_numbers(events: usize, outcome: Outcome) -> [u64; 4]
@@ -64,6 +67,31 @@ fn step_numbers(owed: usize, step: NextStep) -> [u64; 3]
         NextStep::ToBegin(t) => [1, t as u64, owed as u64],
         NextStep::ToCommit(t) => [2, t as u64, owed as u64],
         NextStep::ToAbort(t) => [3, t as u64, owed as u64],
+    }
+}
+
+// The answer after mending: of a book that was written, its bytes.
+fn mend_numbers(mending: Mending) -> [u64; 4]
+    ensures { λ r. ⌜ r ≡ mendNumbers mending ⌝ }
+{
+    match mending {
+        Mending::Own(kept) => [0, kept as u64, 0, 0],
+        Mending::Wrote(n, kept, _, _) => [0, kept as u64, 0, n as u64],
+        Mending::Refuses(refusal, kept, place) => {
+            let number = refusal.number() as u64;
+            [number, kept as u64, place as u64, 0]
+        }
+    }
+}
+
+// Which book came of mending: none (0), the caller's own (1), or the one at the front of the room (2); and the bytes dropped and the steps added.
+fn mended_numbers(mending: Mending) -> [u64; 3]
+    ensures { λ r. ⌜ r ≡ mendedNumbers mending ⌝ }
+{
+    match mending {
+        Mending::Own(_) => [1, 0, 0],
+        Mending::Wrote(_, _, dropped, added) => [2, dropped as u64, added as u64],
+        Mending::Refuses(_, _, _) => [0, 0, 0],
     }
 }
 
@@ -188,6 +216,23 @@ pub extern "C" fn saga_replay(book: &[u8], way: u64, list: &mut [u16], answer: &
     let outcome = order_outcome(events, copied);
     let numbers = outcome_numbers(events, outcome);
     *answer = numbers;
+}
+
+// Mends a book: puts its accepted opening, with the closing steps that its sagas owe behind it, at the front of a lent room, unless nothing is wrong with it.
+#[no_mangle]
+pub extern "C" fn saga_mend(
+    book: &[u8],
+    room: &mut [u8],
+    answer: &mut [u64; 4],
+    mended: &mut [u64; 3],
+)
+    ensures { λ _. ⌜ (now (answer .exit) ≡ mendNumbers (mendingOf (editionOf (now (book .entry))) (now (book .entry)) (now (room .entry)))) × ((now (mended .exit) ≡ mendedNumbers (mendingOf (editionOf (now (book .entry))) (now (book .entry)) (now (room .entry)))) × (now (room .exit) ≡ mendedRoom (editionOf (now (book .entry))) (now (book .entry)) (now (room .entry)))) ⌝ }
+{
+    let mending = mend::mend(book, room);
+    let numbers = mend_numbers(mending);
+    *answer = numbers;
+    let which = mended_numbers(mending);
+    *mended = which;
 }
 
 // Puts the fields of a book that is accepted whole at the front of a lent room.

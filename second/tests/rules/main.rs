@@ -8,6 +8,7 @@ mod decided;
 mod edition_2;
 mod left;
 mod line;
+mod mend;
 mod moves;
 mod never_moving;
 mod refusals;
