@@ -60,7 +60,8 @@ enum saga_refusal {
   SAGA_NO_ROOM = 19,         /* lent room too small */
   SAGA_ALREADY_ENDED = 20,   /* operation already ended */
   SAGA_NEVER_MOVES = 21,     /* tables that can never move */
-  SAGA_UNDO_ON_RING = 22     /* operation or delegation that would put an active undo on a ring */
+  SAGA_UNDO_ON_RING = 22,    /* operation or delegation that would put an active undo on a ring */
+  SAGA_TOO_MANY_BOOKS = 23   /* 1,000 books are counted already; saga_add alone */
 };
 
 /* The answer of every function that can refuse: always the same four numbers. */
@@ -93,6 +94,22 @@ struct saga_mended {
   uint64_t book;    /* a saga_book */
   uint64_t dropped; /* how many bytes of the caller's book were dropped */
   uint64_t added;   /* how many closing steps were added */
+};
+
+/* The totals of a term. Before the first book all are 0. */
+struct saga_totals {
+  uint64_t books;      /* how many books were added */
+  uint64_t refused;    /* how many of them were refused; what they begin with, up to the refusal, is counted */
+  uint64_t begun;      /* how many sagas were begun: as many as the next three together */
+  uint64_t committed;  /* how many of these committed */
+  uint64_t backed_out; /* how many are settled and did not commit */
+  uint64_t open;       /* how many are not settled */
+};
+
+/* A share in lowest terms. */
+struct saga_ratio {
+  uint64_t part;  /* so many */
+  uint64_t whole; /* of so many, never 0 */
 };
 
 /* Reads a book. Reading on, the answer is the refusal that ends the reading (1 to 7 or 21), if there is one; its count is how many events were
@@ -133,6 +150,14 @@ void saga_replay(const uint8_t *book, size_t book_size, uint64_t way, uint16_t *
    are those of the tables, then 1 if the result would be longer than a book may be, then 19; each leaves the room as it was. A room of SAGA_BOOK_BYTES is never too small. What lies behind
    the result stays as it was. */
 void saga_mend(const uint8_t *book, size_t book_size, uint8_t *room, size_t room_size, struct saga_answer *answer, struct saga_mended *mended);
+
+/* Adds a book to the totals of a term. It is read to its first refusal, and what its accepted opening comes to is added: nothing but that there was a book if its tables are
+   refused. It returns a saga_refusal: 0 if the book is accepted whole, else that of the book; or 23 if 1,000 books were added already, and the totals stay as they were. A total that
+   1,000 books cannot have, over 16,000, counts as 16,000. */
+uint64_t saga_add(const uint8_t *book, size_t book_size, struct saga_totals *totals);
+
+/* The share backed out of those begun, in lowest terms; 0 of 1 if none were begun. */
+void saga_share(const struct saga_totals *totals, struct saga_ratio *share);
 
 /* Puts the fields of a book that is accepted whole at the front of the room; the answer's count is how many there are, never more than the
    book has bytes. Refusals are those of saga_read to the first refusal, then 19; each leaves the room as it was. What lies behind the fields stays as it was. */

@@ -89,6 +89,30 @@ pub enum Mended<'a> {
     },
 }
 
+/// The totals of a term. Before the first book all are 0.
+#[derive(Clone, Copy, Debug, Default, PartialEq, Eq)]
+pub struct Totals {
+    /// How many books were added.
+    pub books: u64,
+    /// How many of them were refused; what they begin with, up to the refusal, is counted.
+    pub refused: u64,
+    /// How many sagas were begun: as many as the next three together.
+    pub begun: u64,
+    /// How many of these committed.
+    pub committed: u64,
+    /// How many are settled and did not commit.
+    pub backed_out: u64,
+    /// How many are not settled.
+    pub open: u64,
+}
+
+/// A share in lowest terms: `part` of `whole`, which is never 0.
+#[derive(Clone, Copy, Debug, PartialEq, Eq)]
+pub struct Share {
+    pub part: u64,
+    pub whole: u64,
+}
+
 mod archive {
     // A slice crosses as a pointer and how many elements it has.
     #[link(name = "sagalib", kind = "static")]
@@ -135,6 +159,8 @@ mod archive {
             answer: *mut [u64; 4],
             mended: *mut [u64; 3],
         );
+        pub fn saga_add(book: *const u8, book_size: usize, totals: *mut [u64; 6]) -> u64;
+        pub fn saga_share(totals: *const [u64; 6], share: *mut [u64; 2]);
         pub fn saga_unpack(
             book: *const u8,
             book_size: usize,
@@ -279,6 +305,42 @@ pub fn mend<'a>(book: &'a [u8], room: &'a mut [u8]) -> (Answer, Mended<'a>) {
         _ => Mended::Refused,
     };
     (answer, came)
+}
+
+fn totals_numbers(totals: &Totals) -> [u64; 6] {
+    [
+        totals.books,
+        totals.refused,
+        totals.begun,
+        totals.committed,
+        totals.backed_out,
+        totals.open,
+    ]
+}
+
+/// Adds a book to the totals of a term. It is read to its first refusal, and what its accepted opening comes to is added. The answer is 0 if the book is accepted whole, else the
+/// number of its refusal; or 23 if 1,000 books were added already, and the totals stay as they were. A total that 1,000 books cannot have, over 16,000, counts as 16,000.
+pub fn add(book: &[u8], totals: &mut Totals) -> u64 {
+    let mut numbers = totals_numbers(totals);
+    let refusal = unsafe { archive::saga_add(book.as_ptr(), book.len(), &mut numbers) };
+    let [books, refused, begun, committed, backed_out, open] = numbers;
+    *totals = Totals {
+        books,
+        refused,
+        begun,
+        committed,
+        backed_out,
+        open,
+    };
+    refusal
+}
+
+/// The share backed out of those begun, in lowest terms; 0 of 1 if none were begun.
+pub fn share(totals: &Totals) -> Share {
+    let mut numbers = [0; 2];
+    unsafe { archive::saga_share(&totals_numbers(totals), &mut numbers) };
+    let [part, whole] = numbers;
+    Share { part, whole }
 }
 
 /// Puts the fields of a book that is accepted whole at the front of the room. There are never more fields than the book has bytes.

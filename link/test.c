@@ -528,6 +528,61 @@ static void long_books(void) {
   CHECK(bytes_untouched(bytes_back, 0, SAGA_BOOK_BYTES + 1));
 }
 
+static void check_totals(int line, struct saga_totals t, uint64_t books, uint64_t refused, uint64_t begun, uint64_t backed_out, uint64_t open) {
+  if (t.books != books || t.refused != refused || t.begun != begun || t.committed != 0 || t.backed_out != backed_out || t.open != open) {
+    printf("test.c:%d: totals %llu %llu %llu %llu %llu %llu\n", line, (unsigned long long)t.books, (unsigned long long)t.refused,
+           (unsigned long long)t.begun, (unsigned long long)t.committed, (unsigned long long)t.backed_out, (unsigned long long)t.open);
+    differences += 1;
+  }
+}
+
+#define TOTALS(t, books, refused, begun, backed_out, open) check_totals(__LINE__, (t), (books), (refused), (begun), (backed_out), (open))
+
+static void check_share(int line, struct saga_totals t, uint64_t part, uint64_t whole) {
+  struct saga_ratio share = {77, 77};
+  saga_share(&t, &share);
+  if (share.part != part || share.whole != whole) {
+    printf("test.c:%d: share %llu of %llu\n", line, (unsigned long long)share.part, (unsigned long long)share.whole);
+    differences += 1;
+  }
+}
+
+#define SHARE(t, part, whole) check_share(__LINE__, (t), (part), (whole))
+
+/* The listing's book is open; with its undo it is backed out; torn, its opening counts. */
+static void term_figures(void) {
+  uint8_t settled[28];
+  memcpy(settled, listed, 24);
+  memcpy(settled + 24, "\x01\x03\x02\x03", 4);
+  struct saga_totals t = {0, 0, 0, 0, 0, 0};
+  SHARE(t, 0, 1);
+  CHECK(saga_add(listed, 24, &t) == SAGA_ACCEPTED);
+  TOTALS(t, 1, 0, 1, 0, 1);
+  SHARE(t, 0, 1);
+  CHECK(saga_add(settled, 28, &t) == SAGA_ACCEPTED);
+  TOTALS(t, 2, 0, 2, 1, 1);
+  CHECK(saga_add(listed, 23, &t) == SAGA_TORN);
+  TOTALS(t, 3, 1, 3, 1, 2);
+  CHECK(saga_add(listed, 0, &t) == SAGA_TORN);
+  TOTALS(t, 4, 2, 3, 1, 2);
+  SHARE(t, 1, 3);
+  CHECK(saga_add(settled, 28, &t) == SAGA_ACCEPTED);
+  SHARE(t, 1, 2);
+
+  /* the 1,000th book is read, the 1,001st is not */
+  t.books = 999;
+  CHECK(saga_add(settled, 28, &t) == SAGA_ACCEPTED);
+  TOTALS(t, 1000, 2, 5, 3, 2);
+  CHECK(saga_add(settled, 28, &t) == SAGA_TOO_MANY_BOOKS);
+  TOTALS(t, 1000, 2, 5, 3, 2);
+
+  /* totals that no books have */
+  struct saga_totals most = {0, UINT64_MAX, UINT64_MAX, 0, 0, UINT64_MAX};
+  CHECK(saga_add(listed, 24, &most) == SAGA_ACCEPTED);
+  TOTALS(most, 1, 16000, 16001, 0, 16001);
+  SHARE(most, 0, 1);
+}
+
 int main(void) {
   the_listing();
   after_the_listing();
@@ -537,6 +592,7 @@ int main(void) {
   empty_and_torn();
   closed_step_by_step();
   replayed_in_order();
+  term_figures();
   unpacked_and_written();
   edition_two();
   mended_books();

@@ -6,8 +6,9 @@
 mod sagalib;
 
 use sagalib::{
-    left, listing, mend, next, opening, read, refused, replay, unpack, write, Answer, Event,
-    Mended, Step, Way, BOOK_BYTES, LISTING_BYTES, MOST_1, MOST_2, TRANSACTIONS,
+    add, left, listing, mend, next, opening, read, refused, replay, share, unpack, write, Answer,
+    Event, Mended, Share, Step, Totals, Way, BOOK_BYTES, LISTING_BYTES, MOST_1, MOST_2,
+    TRANSACTIONS,
 };
 
 const ON: Way = Way::READ_ON;
@@ -417,6 +418,43 @@ fn replayed_in_order() {
     has_order(&REPLAYED[..4], 0, &[]);
 }
 
+fn totals(books: u64, refused: u64, begun: u64, backed_out: u64, open: u64) -> Totals {
+    Totals {
+        books,
+        refused,
+        begun,
+        committed: 0,
+        backed_out,
+        open,
+    }
+}
+
+/// The listing's book is open; with its undo it is backed out; torn, its opening counts.
+fn term_figures() {
+    let settled = [&LISTED[..], &[0x01, 0x03, 0x02, 0x03]].concat();
+    let mut term = Totals::default();
+    assert_eq!(share(&term), Share { part: 0, whole: 1 });
+    assert_eq!(add(&LISTED, &mut term), 0);
+    assert_eq!(term, totals(1, 0, 1, 0, 1));
+    assert_eq!(share(&term), Share { part: 0, whole: 1 });
+    assert_eq!(add(&settled, &mut term), 0);
+    assert_eq!(add(&LISTED[..23], &mut term), 2);
+    assert_eq!(add(&[], &mut term), 2);
+    assert_eq!(term, totals(4, 2, 3, 1, 2));
+    assert_eq!(share(&term), Share { part: 1, whole: 3 });
+    // the 1,000th book is read, the 1,001st is not
+    term.books = 999;
+    assert_eq!(add(&settled, &mut term), 0);
+    assert_eq!(term, totals(1000, 2, 4, 2, 2));
+    assert_eq!(share(&term), Share { part: 1, whole: 2 });
+    assert_eq!(add(&settled, &mut term), 23);
+    assert_eq!(term, totals(1000, 2, 4, 2, 2));
+    // totals that no books have
+    let mut most = totals(0, u64::MAX, u64::MAX, 0, u64::MAX);
+    assert_eq!(add(&LISTED, &mut most), 0);
+    assert_eq!(most, totals(1, 16_000, 16_001, 0, 16_001));
+}
+
 /// A field of two bytes before the place: bytes are counted in reading, fields in writing.
 fn places_in_fields() {
     is_not_written(&[1, 0, 1, 1, 0, 5, 300], answer(2, 0, 7, 0));
@@ -505,6 +543,7 @@ fn all() {
     mended_books();
     mended_to_the_limit();
     replayed_in_order();
+    term_figures();
     places_in_fields();
     edition_two();
     long_books();

@@ -9,7 +9,8 @@ use std::fmt::Write;
 /// which takes no room; or the text of a plan of record moves and a book to
 /// tell them from; or a book to be replayed, and the size of the lent list; or a
 /// book to be read to its first refusal, and with circles permitted too; or a
-/// torn book to be mended, and the size of the lent room.
+/// torn book to be mended, and the size of the lent room; or the books of a
+/// term, one after another, each with its length in three bytes in front.
 #[derive(Clone, Debug, PartialEq, Eq)]
 pub enum Case {
     Book(Vec<u8>, usize),
@@ -20,6 +21,7 @@ pub enum Case {
     FirstRefusal(Vec<u8>, usize),
     CirclesFirstRefusal(Vec<u8>),
     Mend(Vec<u8>, usize),
+    Figures(Vec<u8>),
 }
 
 impl Case {
@@ -34,6 +36,7 @@ impl Case {
             Case::FirstRefusal(book, room) => first_refusal_answer(book, *room),
             Case::CirclesFirstRefusal(book) => circles_first_refusal_answer(book),
             Case::Mend(book, room) => mend_answer(book, *room),
+            Case::Figures(term) => second::figures(books_of_term(term)).into_bytes(),
         }
     }
 }
@@ -156,4 +159,16 @@ fn mend_answer(book: &[u8], room: usize) -> Vec<u8> {
         }
         Err(refused) => refused_line(refused).into_bytes(),
     }
+}
+
+/// The books of a term. A length or a book that breaks off at the end is none.
+fn books_of_term(term: &[u8]) -> impl Iterator<Item = &[u8]> {
+    let mut rest = term;
+    std::iter::from_fn(move || {
+        let (length, behind) = rest.split_first_chunk::<3>()?;
+        let [low, middle, high] = length.map(usize::from);
+        let (book, behind) = behind.split_at_checked(low | middle << 8 | high << 16)?;
+        rest = behind;
+        Some(book)
+    })
 }

@@ -4,6 +4,7 @@ use crate::answers::Case;
 use crate::books::{book, field_list, is_ordered};
 use crate::mending::torn_books;
 use crate::plans::{planned, Planned};
+use crate::terms::term;
 
 const MOST_ROOM: usize = 65_536;
 
@@ -18,6 +19,7 @@ impl Case {
             Case::FirstRefusal(..) => b'f',
             Case::CirclesFirstRefusal(..) => b'g',
             Case::Mend(..) => b'd',
+            Case::Figures(..) => b't',
         }
     }
 
@@ -30,7 +32,7 @@ impl Case {
             | Case::Replay(_, room)
             | Case::FirstRefusal(_, room)
             | Case::Mend(_, room) => *room,
-            Case::CirclesBook(_) | Case::CirclesFirstRefusal(_) => 0,
+            Case::CirclesBook(_) | Case::CirclesFirstRefusal(_) | Case::Figures(_) => 0,
             Case::Moves(plan, _) => plan.len(),
         }
     }
@@ -42,7 +44,8 @@ impl Case {
             | Case::Replay(book, _)
             | Case::FirstRefusal(book, _)
             | Case::CirclesFirstRefusal(book)
-            | Case::Mend(book, _) => book.clone(),
+            | Case::Mend(book, _)
+            | Case::Figures(book) => book.clone(),
             Case::Fields(fields, _) => fields.iter().flat_map(|f| f.to_le_bytes()).collect(),
             Case::Moves(plan, book) => [&plan[..], book].concat(),
         }
@@ -79,7 +82,8 @@ pub fn heading(index: usize) -> Vec<u8> {
 /// an event is refused the book is asked in both ways. After
 /// every fourth there is a plan of record moves with a book of its own. Every
 /// fourth, and those laid out for it, are asked for the order to replay in too,
-/// and every fourth and those laid out for it are mended.
+/// and every fourth and those laid out for it are mended. Now and then the
+/// figures of a term are asked for.
 pub fn made(seed: u64, count: u64) -> Vec<Case> {
     let mut cases = Vec::new();
     for index in 0..count {
@@ -104,6 +108,7 @@ pub fn made(seed: u64, count: u64) -> Vec<Case> {
         for (torn, room) in torn_books(seed, index) {
             cases.push(Case::Mend(torn, room));
         }
+        cases.extend(term(seed, index).map(Case::Figures));
         if index.is_multiple_of(4) {
             let fields = field_list(seed, index);
             let room = self::room(index, fields.len());
@@ -172,6 +177,7 @@ fn fixed_case(line: &str) -> Option<Case> {
         ("r", Some(size)) => Some(Case::Replay(numbers(words, byte)?, size)),
         ("f", _) => Some(Case::FirstRefusal(numbers(words, byte)?, lent)),
         ("d", _) => Some(Case::Mend(numbers(words, byte)?, lent)),
+        ("t", None) => Some(Case::Figures(numbers(words, byte)?)),
         ("g", None) => Some(Case::CirclesFirstRefusal(numbers(words, byte)?)),
         _ => None,
     }
@@ -259,7 +265,7 @@ mod tests {
     fn a_line_of_the_fixed_cases() {
         let text = "# not this\n\nb 01 x2 0A /3\nw 7 300\nc 01 x2 FF x1 03 04\n\
                     m \"move A/B\\n\" x2 \"x\\t\" \"#\\r\" x1 \"\\x7Cz\\x22\" | 01 x2 0F\nm | 01\n\
-                    r 01 x2 0A /0\nf 01 x2 0A /3\nf 02\ng 02 x2 07\nd x2 0A /3\nd 01\n";
+                    r 01 x2 0A /0\nf 01 x2 0A /3\nf 02\ng 02 x2 07\nd x2 0A /3\nd 01\nt 01 x2 00\nt\n";
         let cases = fixed(text).unwrap();
         assert_eq!(
             cases,
@@ -275,6 +281,8 @@ mod tests {
                 Case::CirclesFirstRefusal(vec![2, 7, 7]),
                 Case::Mend(vec![10, 10], 3),
                 Case::Mend(vec![1], MOST_ROOM),
+                Case::Figures(vec![1, 0, 0]),
+                Case::Figures(vec![]),
             ]
         );
     }
@@ -284,7 +292,7 @@ mod tests {
         let text = include_str!("../fixed.txt");
         let lines = text
             .lines()
-            .filter(|line| line.starts_with(['b', 'w', 'c', 'm', 'r', 'f', 'g', 'd']));
+            .filter(|line| line.starts_with(['b', 'w', 'c', 'm', 'r', 'f', 'g', 'd', 't']));
         assert_eq!(fixed(text).map(|cases| cases.len()), Ok(lines.count()));
     }
 
@@ -303,6 +311,8 @@ mod tests {
             "f 1G",
             "g 01 /3",
             "d 1G",
+            "t 1G",
+            "t 01 /3",
             "m 01",
             "m | 1G",
             "m \"move\" 01 | 01",
@@ -327,9 +337,10 @@ mod tests {
             Case::FirstRefusal(vec![4], 5),
             Case::CirclesFirstRefusal(vec![6, 7]),
             Case::Mend(vec![8], 258),
+            Case::Figures(vec![1, 0, 0, 7]),
         ];
         let asked = [
-            &[8, 0, 0][..],
+            &[9, 0, 0][..],
             &[b'b', 2, 0, 0, 1, 0, 0, 9],
             &[b'w', 0, 0, 1, 8, 0, 0, 2, 1, 0, 0, 1, 2, 3, 4],
             &[b'c', 0, 0, 0, 2, 0, 0, 7, 8],
@@ -340,6 +351,7 @@ mod tests {
             &[b'f', 5, 0, 0, 1, 0, 0, 4],
             &[b'g', 0, 0, 0, 2, 0, 0, 6, 7],
             &[b'd', 2, 1, 0, 1, 0, 0, 8],
+            &[b't', 0, 0, 0, 4, 0, 0, 1, 0, 0, 7],
         ];
         assert_eq!(question(&cases), asked.concat());
     }
@@ -472,6 +484,21 @@ mod tests {
         assert_eq!(answer(&torn, 9), b"refused 19 1 0\n");
         assert_eq!(answer(&torn[..6], 0), b"own 0\n");
         assert_eq!(answer(&torn[..5], 10), b"refused 2 0 5\n");
+    }
+
+    #[test]
+    fn answers_of_a_term() {
+        let answer = |term: &[u8]| String::from_utf8(Case::Figures(term.to_vec()).answer());
+        assert_eq!(answer(&[]).unwrap(), "figures 0 0 0 0 0 0 share 0 1\n");
+        // A saga of one step, given up; a book of nothing; a book that breaks off.
+        let term = [10, 0, 0, 1, 1, 1, 0, 0, 0, 1, 0, 3, 0, 0, 0, 0, 2, 0, 0, 1];
+        let figures = "figures 2 1 1 0 1 0 share 1 1\n";
+        assert_eq!(answer(&term).unwrap(), figures);
+        let too_many = [0, 0, 0].repeat(1002);
+        let lines = "refused 23\nrefused 23\nfigures 1000 1000 0 0 0 0 share 0 1\n";
+        assert_eq!(answer(&too_many).unwrap(), lines);
+        let long = [&[4, 1, 0][..], &[1, 0, 130, 1], &[0; 256], &[9]].concat();
+        assert_eq!(answer(&long).unwrap(), "figures 1 1 0 0 0 0 share 0 1\n");
     }
 
     #[test]

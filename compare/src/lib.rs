@@ -24,4 +24,5 @@ mod singles;
 mod story;
 mod stuck;
 mod tables;
+mod terms;
 mod undoing;

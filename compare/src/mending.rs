@@ -61,7 +61,7 @@ fn with_a_room(random: &mut Random, book: Vec<u8>) -> Vec<(Vec<u8>, usize)> {
 }
 
 /// A story in which sagas are left on their way.
-fn story_left(random: &mut Random) -> Story {
+pub fn story_left(random: &mut Random) -> Story {
     let told: fn(&mut Random) -> Story = random.pick(&[
         story as fn(&mut Random) -> Story,
         story_of_sagas,
@@ -89,7 +89,7 @@ fn torn_at_every_byte(random: &mut Random) -> Vec<(Vec<u8>, usize)> {
 
 /// A book that is whole, torn, or refused in the middle; some with sagas that
 /// are all settled.
-fn laid_out(random: &mut Random) -> Vec<u8> {
+pub fn laid_out(random: &mut Random) -> Vec<u8> {
     let mut story = story_left(random);
     if random.one_in(3) {
         settle(&mut story);
@@ -119,7 +119,7 @@ fn laid_out(random: &mut Random) -> Vec<u8> {
 }
 
 /// Brings every saga that was begun to its end.
-fn settle(story: &mut Story) {
+pub fn settle(story: &mut Story) {
     for (saga, steps) in story.model.sagas() {
         while let Some(event) = story.model.closing_step(saga, steps) {
             if !story.go_on_with(event) {

@@ -16,9 +16,10 @@ const USAGE: &str = "usage: second listing | opening | unpack [ROOM] | write [RO
        second circles-listing | circles-opening
        second first-refusal | circles-first-refusal
        second moves PLAN
+       second figures FILE ..
        second listings FOLDER
        second measure FILE TIMES
-All but the last two read standard input.";
+All but the last three read standard input.";
 
 fn main() -> ExitCode {
     let arguments: Vec<OsString> = std::env::args_os().skip(1).collect();
@@ -71,6 +72,7 @@ fn answer(arguments: &[OsString]) -> Result<Vec<u8>, String> {
         (Some("replay"), room @ ([] | [_])) => replay(room_size(room)?),
         (Some("mend"), room @ ([] | [_])) => mend(room_size(room)?),
         (Some("moves"), [plan]) => moves(Path::new(plan)),
+        (Some("figures"), files) => figures(files),
         (Some("listings"), [folder]) => listings(Path::new(folder)),
         (Some("measure"), [file, times]) => measure(Path::new(file), number(times)?),
         _ => Err(format!("no such command\n{USAGE}")),
@@ -212,6 +214,14 @@ fn moves(file: &Path) -> Result<Vec<u8>, String> {
     let plan = Plan::from_text(&bytes_of_file(file)?)
         .map_err(|not_read| format!("{}: {not_read}", file.display()))?;
     Ok(second::move_lines(&plan, &book_from_input()?))
+}
+
+fn figures(files: &[&OsStr]) -> Result<Vec<u8>, String> {
+    let books: Result<Vec<Vec<u8>>, String> = files
+        .iter()
+        .map(|file| bytes_of_file(Path::new(file)))
+        .collect();
+    Ok(second::figures(books?.iter().map(Vec::as_slice)).into_bytes())
 }
 
 fn listings(folder: &Path) -> Result<Vec<u8>, String> {

@@ -48,6 +48,8 @@ pub const NEVER_MOVES: u8 = 21;
 /// The operation or the delegation would put an active undo on a ring of ties,
 /// and then the undo could not commit.
 pub const UNDO_ON_A_RING: u8 = 22;
+/// 1,000 books are read for the term already.
+pub const TOO_MANY_BOOKS: u8 = 23;
 
 /// A move of the plan has more than 16 steps.
 pub const TOO_MANY_STEPS: u8 = 25;

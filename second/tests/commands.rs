@@ -232,6 +232,27 @@ fn mend() {
 }
 
 #[test]
+fn figures() {
+    let folder = folder("figures");
+    let file = |name: &str, book: &[u8]| {
+        let file = folder.join(name);
+        fs::write(&file, book).unwrap();
+        file.into_os_string().into_string().unwrap()
+    };
+    let listed = file("listed", &LISTED);
+    let put_back = file("put back", &[1, 1, 1, 0, 0, 0, 1, 0, 3, 0]);
+    let long = file("long", &[1; 70_000]);
+    answers(&["figures"], &[], "figures 0 0 0 0 0 0 share 0 1\n");
+    let all = ["figures", &listed, &put_back, &long, &put_back];
+    answers(&all, &[], "figures 4 1 3 0 2 1 share 2 3\n");
+    let mut too_many = vec!["figures"; 1];
+    too_many.extend(vec![&put_back[..]; 1002]);
+    let line = "refused 23\nrefused 23\nfigures 1000 0 1000 0 1000 0 share 1 1\n";
+    answers(&too_many, &[], line);
+    complains(&["figures", &listed, "no/such/file"], &[]);
+}
+
+#[test]
 fn left() {
     answers(&["left"], &LISTED, "left 2\n");
     answers(&["left"], &LISTED[..23], "left 3\n");

@@ -118,6 +118,7 @@ fn take_case(rest: &mut &[u8]) -> Option<Case> {
         b'f' => Some(Case::FirstRefusal(bytes.to_vec(), room)),
         b'g' => Some(Case::CirclesFirstRefusal(bytes.to_vec())),
         b'd' => Some(Case::Mend(bytes.to_vec(), room)),
+        b't' => Some(Case::Figures(bytes.to_vec())),
         _ => None,
     }
 }
@@ -146,7 +147,7 @@ mod tests {
     #[test]
     fn a_question_is_read_back() {
         let text = "b 01 80 /3\nw 7 300 65536 4294967295\nc 01\nm \"list a\" | 01\nb x70000 01\n\
-                    r 01 02 /4\nf 01 /5\nf 02\ng 03\nd 04 05 /6\n";
+                    r 01 02 /4\nf 01 /5\nf 02\ng 03\nd 04 05 /6\nt 01 00 00 09\n";
         let cases = fixed(text).unwrap();
         let read: Vec<Case> = asked(&question(&cases)).unwrap();
         let show = |cases: &dyn std::fmt::Debug| format!("{cases:?}");

@@ -5,8 +5,9 @@
 // the room. 'c' is a book whose begin dependencies may go round in a circle: the same without its fields. 'f' and 'g' are the same as 'b' and 'c', read to the first
 // refusal. 'r' is a book too, and the order to replay in is put into the room. 'w' is a list of fields, two bytes each, low byte first: what
 // writing them into the room answers. 'm' is a plan as staff write it, as long as the number says that stands for a room, and a book behind it: what
-// the program `recordmove` prints of them, or the number of the line that is not understood. 'd' is a book, mended into the room: its own, or the bytes written. It stops
-// at the end of the input or where that is torn. A case that was not read gets no answer, and what was not read, written or understood is said on standard error.
+// the program `recordmove` prints of them, or the number of the line that is not understood. 'd' is a book, mended into the room: its own, or the bytes written. 't' is a term: books one
+// after another, each behind its length in three bytes: a line for each that is refused by 23, and the figures. It stops at the end of the input or where that is torn. A case that was
+// not read gets no answer, and what was not read, written or understood is said on standard error.
 use book::Outcome;
 use input::Filled;
 use libc::STDERR_FILENO;
@@ -21,6 +22,8 @@ use tables::Circles;
 use telling::Told;
 use terms::Book;
 use terms::Refusal;
+use totals::Answer;
+use totals::Totals;
 
 // How a book is read: on past refused events, or to the first of them.
 enum Way {
@@ -324,6 +327,55 @@ fn move_case(bytes: &[u8], size: usize) {
     }
 }
 
+// Says that a book is one too many; of another refusal nothing is said.
+fn say_too_many(answer: Answer) {
+    if let Answer::TooManyBooks = answer {
+        let number = answer.number() as usize;
+        say_count(b"refused", number);
+    }
+}
+
+// The totals with a book more.
+fn with_book(totals: Totals, book: &[u8]) -> Totals {
+    let added = totals::add(totals, book);
+    let answer = added.answer;
+    let sum = added.totals;
+    say_too_many(answer);
+    sum
+}
+
+fn say_totals(totals: Totals) {
+    let share = totals.share();
+    say(b"figures");
+    then_number(totals.books as usize);
+    then_number(totals.refused as usize);
+    then_number(totals.begun as usize);
+    then_number(totals.committed as usize);
+    then_number(totals.backed as usize);
+    then_number(totals.unsettled as usize);
+    say(b" share");
+    then_number(share.part as usize);
+    say_count(b"", share.whole as usize);
+}
+
+// The books of a term; a length or a book that is torn at the end is none.
+fn term_case(bytes: &[u8]) {
+    let mut totals = Totals::none();
+    let mut at: usize = 0;
+    while 3 <= bytes.len() - at {
+        let length = three(bytes[at], bytes[at + 1], bytes[at + 2]);
+        let start = at + 3;
+        if bytes.len() - start < length {
+            break;
+        }
+        let end = start + length;
+        let sum = with_book(totals, &bytes[start..end]);
+        totals = sum;
+        at = end;
+    }
+    say_totals(totals);
+}
+
 // One case by its letter.
 fn answer(letter: u8, bytes: &[u8], size: usize) {
     if letter == b'w' {
@@ -340,6 +392,8 @@ fn answer(letter: u8, bytes: &[u8], size: usize) {
         move_case(bytes, size);
     } else if letter == b'd' {
         mend_case(bytes, size);
+    } else if letter == b't' {
+        term_case(bytes);
     } else {
         book_case(Way::On, bytes, size);
     }

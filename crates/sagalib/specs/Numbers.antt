@@ -4,6 +4,7 @@ use Prim.Native.Nat.{ℕ, _%_}
 use mathlib.Core.Bool.{Bool, cond}
 use mathlib.Core.List.{List, [], _∷_}
 use lib.Dec.{eqb, ltb}
+use lib.ListN.{getD}
 use Rattle.terms.specs.Refusals.{numberOf, verdictNumber}
 use Rattle.terms.specs.declared.Refusal.the-variants.{NoRoom}
 use Rattle.packing.specs.Fields.{encodes}
@@ -24,6 +25,8 @@ use Rattle.book.specs.declared.Outcome.the-variants.{Wrote, Refuses}
 use Rattle.onward.specs.Onward.{judgementBy, judgementUpTo, refusedBy}
 use Rattle.onward.specs.declared.Judgement.{Judgement}
 use Rattle.onward.specs.declared.No.{No}
+use Rattle.share.specs.declared.Share.{Share}
+use Rattle.totals.specs.declared.Totals.{Totals}
 use Rattle.listing.specs.Lines.{listingOf}
 use Rattle.listing.specs.Texts.{putAnswer}
 use Rattle.listing.specs.declared.Put.{Put}
@@ -119,3 +122,14 @@ stepNumbers owed (ToAbort t) = 3 ∷ t ∷ owed ∷ []
 unfoldable pub nextNumbers : ℕ → List ℕ → ℕ → List ℕ
 nextNumbers way s saga =
     stepNumbers (outstanding (judged way s .tables) (judged way s .state) saga) (closing (judged way s .tables) (judged way s .state) saga)
+
+-- ---- the six numbers of a term's totals, and the two of a share
+
+abbrev pub totalsIn : List ℕ → Totals
+totalsIn l = record { books = getD l 0 0; refused = getD l 1 0; begun = getD l 2 0; committed = getD l 3 0; backed = getD l 4 0; unsettled = getD l 5 0 }
+
+abbrev pub totalsNumbers : Totals → List ℕ
+totalsNumbers t = t .books ∷ t .refused ∷ t .begun ∷ t .committed ∷ t .backed ∷ t .unsettled ∷ []
+
+abbrev pub shareNumbers : Share → List ℕ
+shareNumbers r = r .part ∷ r .whole ∷ []

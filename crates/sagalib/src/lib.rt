@@ -13,6 +13,7 @@ use onward::Judgement;
 use replay::Copied;
 use tables::Circles;
 use terms::Refusal;
+use totals::Totals;
 ghost use mathlib.Core.Path.{_≡_};
 ghost use lib.ListN.{length};
 ghost use Rattle.tables.specs.Reading.{editionOf};
@@ -23,7 +24,8 @@ ghost use Rattle.book.specs.Packing.{unpackedRoom, writtenRoom};
 ghost use Rattle.onward.specs.Onward.{fitting, listedIn};
 ghost use Rattle.listing.specs.Texts.{putRoom};
 ghost use Rattle.mend.specs.Mend.{mendedRoom, mendingOf};
-ghost use Rattle.sagalib.specs.Numbers.{readsOn, circlesIn, judged, refusedIn, readNumbers, outcomeNumbers, unpackNumbers, writeNumbers, listingIn, listingOutcome, listingNumbers, orderOutcome, orderIn, replayNumbers, stepNumbers, nextNumbers, mendNumbers, mendedNumbers};
+ghost use Rattle.totals.specs.Figures.{addAnswer, addedTo, answerNumber, shareOf};
+ghost use Rattle.sagalib.specs.Numbers.{readsOn, circlesIn, judged, refusedIn, readNumbers, outcomeNumbers, unpackNumbers, writeNumbers, listingIn, listingOutcome, listingNumbers, orderOutcome, orderIn, replayNumbers, stepNumbers, nextNumbers, mendNumbers, mendedNumbers, totalsIn, totalsNumbers, shareNumbers};
 
 // The answer after writing for a book of so many accepted events; a refusal says by itself how many it came after.
 fn outcome_numbers(events: usize, outcome: Outcome) -> [u64; 4]
@@ -262,4 +264,50 @@ pub extern "C" fn saga_write(fields: &[u32], room: &mut [u8], answer: &mut [u64;
     let events = written.events;
     let numbers = outcome_numbers(events, outcome);
     *answer = numbers;
+}
+
+// Totals from the six numbers that are lent.
+fn totals_in(numbers: &[u64; 6]) -> Totals
+    ensures { λ r. ⌜ r ≡ totalsIn (now (numbers .entry)) ⌝ }
+{
+    Totals {
+        books: numbers[0],
+        refused: numbers[1],
+        begun: numbers[2],
+        committed: numbers[3],
+        backed: numbers[4],
+        unsettled: numbers[5],
+    }
+}
+
+// Adds a book to the totals of a term, and answers the number of its refusal, 0 if it is accepted whole: that of reading it to its first refusal, where its accepted opening is
+// added; or 23 where 1,000 books are counted already, and the totals stay as they are.
+#[no_mangle]
+pub extern "C" fn saga_add(book: &[u8], term: &mut [u64; 6]) -> u64
+    ensures { λ r. ⌜ (r ≡ answerNumber (addAnswer (totalsIn (now (term .entry))) (now (book .entry)))) × (now (term .exit) ≡ totalsNumbers (addedTo (totalsIn (now (term .entry))) (now (book .entry)))) ⌝ }
+{
+    let before = totals_in(term);
+    let added = totals::add(before, book);
+    let answer = added.answer;
+    let after = added.totals;
+    let number = answer.number();
+    *term = [
+        after.books,
+        after.refused,
+        after.begun,
+        after.committed,
+        after.backed,
+        after.unsettled,
+    ];
+    number as u64
+}
+
+// The share backed out of those begun, in lowest terms.
+#[no_mangle]
+pub extern "C" fn saga_share(term: &[u64; 6], share: &mut [u64; 2])
+    ensures { λ _. ⌜ now (share .exit) ≡ shareNumbers (shareOf (totalsIn (now (term .entry)))) ⌝ }
+{
+    let counted = totals_in(term);
+    let lowest = counted.share();
+    *share = [lowest.part, lowest.whole];
 }

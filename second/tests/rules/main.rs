@@ -6,6 +6,7 @@ mod chance;
 mod closing;
 mod decided;
 mod edition_2;
+mod figures;
 mod left;
 mod line;
 mod mend;

@@ -1,0 +1,3 @@
+-- Laws of rows, and that what is promised of the table holds.
+pub mod RowLaws
+pub mod TableTellsHolds

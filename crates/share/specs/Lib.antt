@@ -1,0 +1,3 @@
+-- The definitions that the contracts of `share` cite, and what is promised of them.
+pub mod Shares
+pub mod Promises
