@@ -4,7 +4,7 @@
    rooms are passed as a pointer and how many elements there are. What C itself asks stays the caller's part: a pointer is not null, it
    points to as many elements as the number after it says, and a room and an answer overlap nothing else that is passed.
 
-   No function keeps anything between two calls, takes memory from the heap or writes anywhere but into the room and the answer. */
+   No function keeps anything between two calls, takes memory from the heap or writes anywhere but into what it is lent to write: a room, a list, an answer, a step, totals, a share. */
 #ifndef SAGALIB_H
 #define SAGALIB_H
 
@@ -64,7 +64,7 @@ enum saga_refusal {
   SAGA_TOO_MANY_BOOKS = 23   /* 1,000 books are counted already; saga_add alone */
 };
 
-/* The answer of every function that can refuse: always the same four numbers. */
+/* The answer of every function that can refuse, but saga_add: always the same four numbers. */
 struct saga_answer {
   uint64_t refusal; /* a saga_refusal: 0 if nothing ended the reading; see count */
   uint64_t events;  /* how many events of the book are accepted, before the refusal if there is one */

@@ -1,7 +1,7 @@
 //! The saga book for Rust: safe functions over libsagalib.a.
 //!
 //! Each takes any bytes and any numbers; nothing has to be looked at first, and a refusal is an answer like any other. No function keeps
-//! anything between two calls, takes memory from the heap or writes anywhere but into the room that it is lent.
+//! anything between two calls, takes memory from the heap or writes anywhere but into what it is lent to write.
 
 #[cfg(not(target_arch = "x86_64"))]
 compile_error!("libsagalib.a is code for x86-64");
@@ -45,7 +45,7 @@ impl Way {
     }
 }
 
-/// The answer of every function that can refuse: always the same four numbers.
+/// The answer of every function that can refuse, but `add`: always the same four numbers.
 #[derive(Clone, Copy, Debug, PartialEq, Eq)]
 pub struct Answer {
     /// The refusal's number in the table of refusals; 0 if nothing ended the reading; see `count`.
