@@ -294,6 +294,7 @@ pub extern "C" fn main(_count: i32, _words: *const *const u8) -> i32 {
         ("given-undos", given_undos()),
         ("listed", listed()),
         ("long-ring", long_ring()),
+        ("long-ring-full", full_of_refused(long_ring(), 0)),
         ("long-ring-refused", refused(long_ring(), 0)),
         ("never-begun", never_begun()),
         ("ring", ring()),

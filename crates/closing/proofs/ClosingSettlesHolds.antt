@@ -3,7 +3,7 @@ use Prim.Native.Nat.{ℕ, zero, suc, _+_, _*_, _≤_, _<_}
 use native.Mathlib.Omega.{arith}
 use mathlib.Core.Path.{_≡_, refl, sym, ap, subst, _∙_, ap₂}
 use mathlib.Core.Logic.{_≢_}
-use mathlib.Core.List.{List, [], _∷_, _++_}
+use mathlib.Core.List.{List, [], _∷_, _++_, append-assoc, append-nil}
 use mathlib.Core.Bool.{true, false}
 use lib.ListN.{length, length-append}
 use lib.Dec.{ltb, leb}
@@ -144,6 +144,9 @@ foreign-append f n (x ∷ xs) ys a b =
     let both = on-and (foreign f n x) (allForeign f n xs) a in
     and-on (foreign f n x) (allForeign f n (xs ++ ys)) (both .0) (foreign-append f n xs ys (both .1) b)
 
+the-last : (k m : ℕ) → k ≤ m → m ≤ k → k ≡ m
+the-last k m l h = omega arith
+
 -- ---- all sagas, in rising order
 
 module _ (tables : Tables) (well : Well tables) (s : State) (good : (i : ℕ) → i < tables .sagas → Good tables i s) where
@@ -198,6 +201,37 @@ module _ (tables : Tables) (well : Well tables) (s : State) (good : (i : ℕ) �
   close-each zero h = record { together = refl; earlier = λ i l. refl; all-taken = refl; all-settled = λ i l. absurd (omega arith); none-owes = λ i l. absurd (omega arith) }
   close-each (suc k) h = close-more k (closeAll tables s k) h (close-each k (omega arith))
 
+  -- behind the sagas below k come steps that are none of theirs
+  record Behind (k m : ℕ) : Type 0 where
+    back : List Event
+    all : closeAll tables s m ≡ closeAll tables s k ++ back
+    later : (i : ℕ) → i < k → allForeign (firstOf tables i) (stepsOf tables i) back ≡ true
+
+  one-behind : (k m : ℕ) → k ≤ m → m < tables .sagas → Behind k m → Behind k (suc m)
+  unfolding closeAll
+  one-behind k m l low b =
+      let before : State = run tables s (closeAll tables s m) in
+      let one = close-one tables well m low before (good-run tables well m low (closeAll tables s m) s (good m low)) in
+      let steps = closeOne tables m before in
+      record {
+        back = b .back ++ steps;
+        all = ap (λ (x : List Event). x ++ steps) (b .all) ∙ append-assoc (closeAll tables s k) (b .back) steps;
+        later = λ i below.
+            foreign-append (firstOf tables i) (stepsOf tables i) (b .back) steps (b .later i below)
+            (one .elsewhere (firstOf tables i) (stepsOf tables i) (apart tables i m (omega arith)));
+      }
+
+  none-behind : (k : ℕ) → Behind k k
+  unfolding allForeign
+  none-behind k = record { back = []; all = sym (append-nil (closeAll tables s k)); later = λ i l. refl }
+
+  behind : (k m : ℕ) → k ≤ m → m ≤ tables .sagas → Behind k m
+  behind k zero l h = subst (Behind k) (the-last k zero l (omega arith)) (none-behind k)
+  behind k (suc m) l h =
+      same-or k (suc m)
+      (λ e. subst (Behind k) e (none-behind k))
+      (λ e. one-behind k m (omega arith) (omega arith) (behind k m (omega arith) (omega arith)))
+
 pub closing-settles : ClosingSettles
 closing-settles tables well es =
     let good : (i : ℕ) → i < tables .sagas → Good tables i (reached tables es) =
@@ -209,6 +243,14 @@ closing-settles tables well es =
           (c .many, c .all-taken, settles tables well i low (reached tables es) (good i low) b);
       sum = every .together;
       all = (every .all-taken, every .all-settled);
+      rising = λ k l.
+          let b = behind tables well (reached tables es) good k (tables .sagas) l (omega arith) in (
+            closeAll tables (reached tables es) k,
+            b .back,
+            b .all,
+            λ i m low. close-each tables well (reached tables es) good k l .earlier i m,
+            b .later,
+          );
       over = every .none-owes;
     }
 

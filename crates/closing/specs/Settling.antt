@@ -1,6 +1,6 @@
 -- What a manager asks: taking the closing steps of a begun saga settles it, in exactly as many steps as the number says; and doing so for
 -- all begun sagas in rising order settles them all.
-use Prim.Native.Nat.{ℕ, zero, suc, _+_, _<_}
+use Prim.Native.Nat.{ℕ, zero, suc, _+_, _≤_, _<_}
 use mathlib.Core.Path.{_≡_}
 use mathlib.Core.Logic.{_≢_, _⊎_}
 use mathlib.Core.Bool.{true}
@@ -20,7 +20,7 @@ use Rattle.rules.specs.declared.State.{State}
 use Rattle.judge.specs.Judge.{judged}
 use Rattle.histories.specs.Histories.{history, reached, run, taken}
 use Rattle.closing.specs.Closing.{eventOf, ownOf, outstanding, closing, settled}
-use Rattle.closing.specs.Demand.{backRun, commitsOf, wholeRun}
+use Rattle.closing.specs.Demand.{allForeign, backRun, commitsOf, wholeRun}
 
 -- the next k closing steps of saga i, each judged where the one before it left off
 abbrev pub andOn : Option Event → (Event → List Event) → List Event
@@ -56,6 +56,11 @@ pub record Settles (tables : Tables) (es : List Event) : Type 0 where
   pub all : (taken tables (reached tables es) (closeAll tables (reached tables es) (tables .sagas)) ≡ closeAll tables (reached tables es) (tables .sagas))
       × ((i : ℕ) → i < tables .sagas → ownOf tables (reached tables es) i 0 ≢ Idle →
       settled tables (run tables (reached tables es) (closeAll tables (reached tables es) (tables .sagas))) i ≡ true)
+  -- in rising order: for every k the steps of the sagas below k come before those of all others
+  pub rising : (k : ℕ) → k ≤ tables .sagas
+      → (front : List Event) × (back : List Event) × (closeAll tables (reached tables es) (tables .sagas) ≡ front ++ back)
+      × ((i : ℕ) → k ≤ i → i < tables .sagas → allForeign (firstOf tables i) (stepsOf tables i) front ≡ true)
+      × ((i : ℕ) → i < k → allForeign (firstOf tables i) (stepsOf tables i) back ≡ true)
   -- and no saga owes anything then, begun or not
   pub over : (i : ℕ) → i < tables .sagas → outstanding tables (run tables (reached tables es) (closeAll tables (reached tables es) (tables .sagas))) i ≡ 0
 

@@ -3,4 +3,5 @@ pub mod RuleLaws
 pub mod LentLaws
 pub mod ChangeLaws
 pub mod EventLaws
+pub mod KnownLaws
 pub mod EventPromisesHold

@@ -1,4 +1,5 @@
 -- The definitions that the contracts of `judge` cite.
 pub mod Judge
 pub mod Lent
+pub mod Known
 pub mod Promises

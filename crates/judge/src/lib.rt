@@ -17,7 +17,7 @@ ghost use lib.Dec.{ltb, eqb};
 ghost use Rattle.terms.specs.Limits.{mostObjects};
 ghost use Rattle.terms.specs.declared.Event.the-variants.{Begin, Commit, Abort, Operation as Invoke, Delegate, CommitOne, AbortOne};
 ghost use Rattle.ties.specs.Operations.{mostOperations, opAt, isActive as isActiveOperation};
-ghost use Rattle.ties.specs.Ties.{beforeMade, beforeGiven, ringWith, mustWait};
+ghost use Rattle.ties.specs.Ties.{onRing, beforeMade, beforeGiven, ringWith, mustWait};
 ghost use Rattle.cells.specs.Cells.{opsIn};
 ghost use Rattle.tables.specs.declared.Tables.{Tables};
 ghost use Rattle.tables.specs.Sorts.{isKnown, isSaga, isUndo, isPlain};
@@ -25,6 +25,7 @@ ghost use Rattle.sheet.specs.Sheet.{Holds, sortAt, objectsOn};
 ghost use Rattle.rules.specs.Lent.{transactionsIn};
 ghost use Rattle.rules.specs.Rules.{inactive, beginBarred, commitBarred, abortBarred, activeUndo};
 ghost use Rattle.rules.specs.States.{isIdle, phaseOf};
+ghost use Rattle.judge.specs.Known.{Ringed, withCommitter};
 ghost use Rattle.judge.specs.Lent.{stateIn, Whole, Fitting};
 ghost use Rattle.judge.specs.Judge.{beginLines, commitLines, abortLines, operationLines, delegateLines, singleLines, commitOneLines, verdictBy, noParty, changeOf, ruledBy, refusedBy, acceptedBy, rulingOf, stateAfter, judged};
 
@@ -226,6 +227,16 @@ fn gives_a_ring(
     rows::ring_given(ops, n, q, receiver, undos)
 }
 
+// Whether t is on a ring, where some are known to be.
+fn is_ringed(ops: &[u32; Operation::MOST], n: usize, t: usize, ringed: u64) -> bool
+    ensures { λ r. ⌜ (Ringed (opsIn (now (ops .entry)) n) ringed → r ≡ onRing (opsIn (now (ops .entry)) n) t) ⌝ }
+{
+    if sets::member(ringed, t) {
+        return true;
+    }
+    rings::on_ring(ops, n, t)
+}
+
 // ---- the events: each goes along its lines
 
 // A refused event changes nothing.
@@ -275,8 +286,9 @@ fn commit(
     ops: &[u32; Operation::MOST],
     n: usize,
     t: usize,
+    ringed: u64,
 ) -> Ruling
-    ensures { λ r. ⌜ ((tables : Tables) → Holds tables (now (sheet .entry)) → r ≡ ruledBy (commitLines tables (transactionsIn (now (transactions .entry))) (opsIn (now (ops .entry)) n) t) (changeOf (Commit t))) ⌝ }
+    ensures { λ r. ⌜ ((tables : Tables) → Holds tables (now (sheet .entry)) → Ringed (opsIn (now (ops .entry)) n) ringed → r ≡ ruledBy (commitLines tables (transactionsIn (now (transactions .entry))) (opsIn (now (ops .entry)) n) t) (changeOf (Commit t))) ⌝ }
 {
     if unknown(sheet, t) {
         return refused(Refusal::NotInTables);
@@ -293,7 +305,7 @@ fn commit(
     if cells::dirty(ops, n, t) {
         return refused(Refusal::DirtyRead);
     }
-    if rings::on_ring(ops, n, t) {
+    if is_ringed(ops, n, t, ringed) {
         return refused(Refusal::OnRing);
     }
     accepted(Change::Ends(t, Phase::Committed, Fate::Committed))
@@ -426,8 +438,9 @@ fn commit_one(
     n: usize,
     t: usize,
     q: usize,
+    ringed: u64,
 ) -> Ruling
-    ensures { λ r. ⌜ ((tables : Tables) → Holds tables (now (sheet .entry)) → r ≡ ruledBy (commitOneLines tables (transactionsIn (now (transactions .entry))) (opsIn (now (ops .entry)) n) t q) (changeOf (CommitOne t q))) ⌝ }
+    ensures { λ r. ⌜ ((tables : Tables) → Holds tables (now (sheet .entry)) → Ringed (opsIn (now (ops .entry)) n) ringed → r ≡ ruledBy (commitOneLines tables (transactionsIn (now (transactions .entry))) (opsIn (now (ops .entry)) n) t q) (changeOf (CommitOne t q))) ⌝ }
 {
     let allowed = single(sheet, transactions, ops, n, t, q);
     let Verdict::Accepted = allowed else {
@@ -439,7 +452,7 @@ fn commit_one(
     if cells::dirty_one(ops, n, t, q) {
         return refused(Refusal::DirtyRead);
     }
-    if rings::on_ring(ops, n, t) {
+    if is_ringed(ops, n, t, ringed) {
         return refused(Refusal::OnRing);
     }
     accepted(Change::EndsOne(q, Fate::Committed))
@@ -465,6 +478,30 @@ fn abort_one(
     accepted(Change::EndsOne(q, Fate::Aborted))
 }
 
+// The verdict on an event and what it would change, where some transactions are known to be on a ring. It holds of the tables that the sheet was made of.
+fn rule_knowing(
+    sheet: &[u32; Sheet::NUMBERS],
+    transactions: &[u32; Book::TRANSACTIONS],
+    ops: &[u32; Operation::MOST],
+    n: usize,
+    event: Event,
+    ringed: u64,
+) -> Ruling
+    ensures { λ r. ⌜ ((tables : Tables) → Holds tables (now (sheet .entry)) → Ringed (opsIn (now (ops .entry)) n) ringed → r ≡ rulingOf tables (stateIn (now (transactions .entry)) (now (ops .entry)) n) event) ⌝ }
+{
+    match event {
+        Event::Begin(t) => begin(sheet, transactions, t),
+        Event::Commit(t) => commit(sheet, transactions, ops, n, t, ringed),
+        Event::Abort(t) => abort(sheet, transactions, t),
+        Event::Operation(t, object, mark) => {
+            operation(sheet, transactions, ops, n, t, object, mark)
+        }
+        Event::Delegate(t, receiver, q) => delegate(sheet, transactions, ops, n, t, receiver, q),
+        Event::CommitOne(t, q) => commit_one(sheet, transactions, ops, n, t, q, ringed),
+        Event::AbortOne(t, q) => abort_one(sheet, transactions, ops, n, t, q),
+    }
+}
+
 // The verdict on an event and what it would change; nothing is touched, so that a caller can ask first. It holds of the tables that the sheet was made of.
 pub fn rule(
     sheet: &[u32; Sheet::NUMBERS],
@@ -475,17 +512,7 @@ pub fn rule(
 ) -> Ruling
     ensures { λ r. ⌜ ((tables : Tables) → Holds tables (now (sheet .entry)) → r ≡ rulingOf tables (stateIn (now (transactions .entry)) (now (ops .entry)) n) event) ⌝ }
 {
-    match event {
-        Event::Begin(t) => begin(sheet, transactions, t),
-        Event::Commit(t) => commit(sheet, transactions, ops, n, t),
-        Event::Abort(t) => abort(sheet, transactions, t),
-        Event::Operation(t, object, mark) => {
-            operation(sheet, transactions, ops, n, t, object, mark)
-        }
-        Event::Delegate(t, receiver, q) => delegate(sheet, transactions, ops, n, t, receiver, q),
-        Event::CommitOne(t, q) => commit_one(sheet, transactions, ops, n, t, q),
-        Event::AbortOne(t, q) => abort_one(sheet, transactions, ops, n, t, q),
-    }
+    rule_knowing(sheet, transactions, ops, n, event, 0)
 }
 
 // Makes a change in the lent numbers; how many operations there are then.
@@ -520,7 +547,26 @@ fn changed(
     }
 }
 
-// Judges one event, and makes what it changes; a refused event leaves all lent numbers as they were.
+// Judges one event, and makes what it changes; a refused event leaves all lent numbers as they were. Who is known to be on a ring, because a commit was refused by it and
+// nothing has changed since, is not searched for again: a book can have tens of thousands of such commits.
+pub fn take_knowing(
+    sheet: &[u32; Sheet::NUMBERS],
+    transactions: &mut [u32; Book::TRANSACTIONS],
+    ops: &mut [u32; Operation::MOST],
+    n: usize,
+    event: Event,
+    ringed: u64,
+) -> Taken
+    ensures { λ r. ⌜ ((tables : Tables) → Holds tables (now (sheet .entry)) → Ringed (opsIn (now (ops .entry)) n) ringed → (r .verdict ≡ judged tables (stateIn (now (transactions .entry)) (now (ops .entry)) n) event .verdict) × (stateIn (now (transactions .exit)) (now (ops .exit)) (r .count) ≡ judged tables (stateIn (now (transactions .entry)) (now (ops .entry)) n) event .state)) ⌝ }
+{
+    let ruled = rule_knowing(sheet, transactions, ops, n, event, ringed);
+    let verdict = ruled.verdict;
+    let change = ruled.change;
+    let count = changed(transactions, ops, n, change);
+    Taken { verdict, count }
+}
+
+// The same where nothing is known.
 pub fn take(
     sheet: &[u32; Sheet::NUMBERS],
     transactions: &mut [u32; Book::TRANSACTIONS],
@@ -530,11 +576,22 @@ pub fn take(
 ) -> Taken
     ensures { λ r. ⌜ ((tables : Tables) → Holds tables (now (sheet .entry)) → (r .verdict ≡ judged tables (stateIn (now (transactions .entry)) (now (ops .entry)) n) event .verdict) × (stateIn (now (transactions .exit)) (now (ops .exit)) (r .count) ≡ judged tables (stateIn (now (transactions .entry)) (now (ops .entry)) n) event .state)) ⌝ }
 {
-    let ruled = rule(sheet, transactions, ops, n, event);
-    let verdict = ruled.verdict;
-    let change = ruled.change;
-    let count = changed(transactions, ops, n, change);
-    Taken { verdict, count }
+    take_knowing(sheet, transactions, ops, n, event, 0)
+}
+
+// With the transaction too that an event would commit, or an operation of: who is known to be on a ring after one that was refused for that.
+pub fn with_committer(event: Event, set: u64) -> u64
+    ensures { λ r. ⌜ r ≡ withCommitter event set ⌝ }
+{
+    match event {
+        Event::Begin(_) => set,
+        Event::Commit(t) => sets::with_member(set, t),
+        Event::Abort(_) => set,
+        Event::Operation(_, _, _) => set,
+        Event::Delegate(_, _, _) => set,
+        Event::CommitOne(t, _) => sets::with_member(set, t),
+        Event::AbortOne(_, _) => set,
+    }
 }
 
 // The state that lent numbers stand for, by value, as a reading hands it out.

@@ -64,7 +64,7 @@ stepWords (ToBegin t) = beginWord ++ decimal t
 stepWords (ToCommit t) = commitWord ++ decimal t
 stepWords (ToAbort t) = abortWord ++ decimal t
 
--- ---- the four kinds of line
+-- ---- the lines: what became of the book, a transaction, an operation, a saga, a refused event
 
 abbrev pub firstLineBy : Verdict → ℕ → ℕ → List ℕ
 firstLineBy Accepted events place = bookAccepted ++ (decimal events ++ lineFeed)

@@ -9,3 +9,4 @@ pub mod RoomLaws
 pub mod ListLaws
 pub mod ItemCountLaws
 pub mod RecordsIgnoredHolds
+pub mod RecordsToldHolds

@@ -2,13 +2,20 @@
 use Prim.Native.Nat.{ℕ, zero, suc, _+_, _≤_, _<_}
 use native.Mathlib.Omega.{arith}
 use native.Mathlib.Numerals.{add-one}
-use mathlib.Core.Path.{_≡_, refl}
-use mathlib.Core.Bool.{Bool, true, false}
+use mathlib.Core.Path.{_≡_, refl, ap}
+use mathlib.Core.Logic.{_≢_}
+use mathlib.Core.Bool.{Bool, true, false, not}
+use lib.Dec.{eqb}
+use borrow.Author.Tests.{eq-eqb, ne-eqb}
 use Rattle.laws.specs.Index.{countBelow, one}
 
 one-le : (b : Bool) → one b ≤ 1
 one-le true = omega arith
 one-le false = omega arith
+
+one-both : (b : Bool) → one b + one (not b) ≡ 1
+one-both true = refl
+one-both false = refl
 
 pub count-le : (n : ℕ) (f : ℕ → Bool) → countBelow n f ≤ n
 unfolding countBelow
@@ -34,3 +41,26 @@ unfolding countBelow
 count-apart zero f a b c h = refl
 count-apart (suc n) f a b c h =
     omega (arith, h zero (omega arith), count-apart n (λ i. f (suc i)) (λ i. a (suc i)) (λ i. b (suc i)) (λ i. c (suc i)) (λ i l. h (suc i) (omega arith)))
+
+-- nothing is counted where it holds of none
+count-nobody : (n : ℕ) (f : ℕ → Bool) → ((k : ℕ) → f k ≡ false) → countBelow n f ≡ 0
+unfolding countBelow
+count-nobody zero f others = refl
+count-nobody (suc n) f others = omega (arith, ap one (others zero), count-nobody n (λ k. f (suc k)) (λ k. others (suc k)))
+
+-- where it holds of one number below n alone, that is one
+count-alone : (n i : ℕ) (f : ℕ → Bool) → i < n → f i ≡ true → ((k : ℕ) → k ≢ i → f k ≡ false) → countBelow n f ≡ 1
+unfolding countBelow
+count-alone zero i f l here others = absurd (omega arith)
+count-alone (suc n) zero f l here others = omega (arith, ap one here, count-nobody n (λ k. f (suc k)) (λ k. others (suc k) (λ e. absurd (omega arith))))
+count-alone (suc n) (suc i) f l here others =
+    omega (arith, ap one (others zero (λ e. absurd (omega arith))), count-alone n i (λ k. f (suc k)) (omega arith) here (λ k d. others (suc k) (λ e. d (omega arith))))
+
+pub count-itself : (n i : ℕ) → i < n → countBelow n (λ k. eqb k i) ≡ 1
+count-itself n i l = count-alone n i (λ k. eqb k i) l (eq-eqb i i refl) (λ k d. ne-eqb k i d)
+
+-- those of which something holds and those of which it does not are all
+pub count-both : (n : ℕ) (f : ℕ → Bool) → countBelow n f + countBelow n (λ k. not (f k)) ≡ n
+unfolding countBelow
+count-both zero f = refl
+count-both (suc n) f = omega (arith, one-both (f zero), count-both n (λ i. f (suc i)))

@@ -26,13 +26,22 @@ use Rattle.share.specs.Promises.{InLowestTerms}
 use Rattle.share.specs.Shares.{lowest}
 use Rattle.share.proofs.SharesHold.{shares-hold}
 use Rattle.totals.specs.Figures.{addedTo, countsOf, grown, howMany, isOpen, isRefused, mostBooks, noTotals, shareOf, termOf, wasBackedOut, wasBegun, wasCommitted, withBook}
-use Rattle.totals.specs.Promises.{OneBook, SameCounts, TermFigures, TermTotals, backedOutIn, begunIn, committedIn, openIn, refusedIn, sumOver}
+use Rattle.totals.specs.Promises.{EachOnce, OneBook, SameCounts, TermFigures, TermTotals, backedOutIn, begunIn, committedIn, openIn, refusedIn, sumOver}
 use Rattle.totals.specs.declared.SagaCounts.{SagaCounts}
 use Rattle.totals.specs.declared.Totals.{Totals}
-use Rattle.totals.proofs.CountLaws.{count-apart}
+use Rattle.totals.proofs.CountLaws.{count-apart, count-both, count-itself}
 use Rattle.totals.proofs.FiguresLaws.{counts-small, one-more, one-small, one-too-many}
 use Rattle.totals.proofs.SagaLaws.{saga-apart, saga-stands}
 use Rattle.totals.proofs.SumLaws.{books-more, is-read, sum-apart, sum-ones, total-after}
+
+-- ---- counting
+
+each-once : (tables : Tables) (s : State) → EachOnce tables s
+each-once tables s =
+    record {
+      one-saga = λ i l. count-itself (sagaCount tables) i l;
+      all-sagas = λ stands. count-both (sagaCount tables) (stands tables s);
+    }
 
 -- ---- one book
 
@@ -50,6 +59,8 @@ nothing-counted s r p n =
 one-book : (s : List ℕ) → OneBook s
 one-book s =
     record {
+      accepted = λ e. ap (λ (v : Verdict). one (isRefused v)) e;
+      refused = λ r e. ap (λ (v : Verdict). one (isRefused v)) e;
       adds-up = book-apart s;
       opening = λ at l e.
           let o = demand2 .opens Forbidden (editionOf s) s at l e in
@@ -144,4 +155,4 @@ term-totals books =
     }
 
 pub term-figures : TermFigures
-term-figures = record { saga = saga-stands; book = one-book; term = term-totals; numbers = (refl, refl) }
+term-figures = record { saga = saga-stands; once = each-once; book = one-book; term = term-totals; numbers = (refl, (refl, λ v. refl)) }

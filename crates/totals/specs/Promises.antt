@@ -1,14 +1,17 @@
 -- What is promised of the term's figures.
-use Prim.Native.Nat.{ℕ, _+_, _≤_, _<_}
+use Prim.Native.Nat.{ℕ, _+_, _≤_, _<_, min}
 use mathlib.Core.Path.{_≡_}
-use mathlib.Core.Bool.{true, false}
+use mathlib.Core.Bool.{Bool, true, false, not}
 use mathlib.Core.Logic.{_↔_, _≢_}
 use mathlib.Core.List.{List, [], _∷_}
+use lib.Dec.{eqb}
 use lib.ListN.{length, take}
 use Rattle.laws.specs.Index.{one}
-use Rattle.terms.specs.Limits.{mostBytes}
+use Rattle.terms.specs.Limits.{mostBytes, mostSagas}
+use Rattle.terms.specs.Refusals.{verdictNumber}
 use Rattle.terms.specs.declared.Refusal.{Refusal}
-use Rattle.terms.specs.declared.Verdict.the-variants.{Accepted}
+use Rattle.terms.specs.declared.Verdict.{Verdict}
+use Rattle.terms.specs.declared.Verdict.the-variants.{Accepted, Refused}
 use Rattle.tables.specs.Reading.{editionOf, tablesBy}
 use Rattle.tables.specs.declared.Circles.the-variants.{Forbidden}
 use Rattle.tables.specs.declared.Tables.{Tables}
@@ -30,6 +33,15 @@ pub record SagaStands (tables : Tables) (s : State) (i : ℕ) : Type 0 where
   pub backed-out : (wasBackedOut tables s i ≡ true) ↔ ((ownOf tables s i 0 ≢ Idle) × (settled tables s i ≡ true) × (ownOf tables s i 0 ≢ Committed))
   -- "still open": begun and not settled
   pub still-open : (isOpen tables s i ≡ true) ↔ ((ownOf tables s i 0 ≢ Idle) × (settled tables s i ≡ false))
+
+-- ---- counting: each saga of the tables counts once, and no other does
+
+pub record EachOnce (tables : Tables) (s : State) : Type 0 where
+  -- where just one stands so, that is one
+  pub one-saga : (i : ℕ) → i < min (tables .sagas) mostSagas → howMany (λ (t : Tables) (u : State) (k : ℕ). eqb k i) tables s ≡ 1
+  -- those that stand so and those that do not are all there are
+  pub all-sagas : (stands : Tables → State → ℕ → Bool)
+      → howMany stands tables s + howMany (λ (t : Tables) (u : State) (k : ℕ). not (stands t u k)) tables s ≡ min (tables .sagas) mostSagas
 
 -- ---- one book: "Each count is defined from the books alone"
 
@@ -57,6 +69,9 @@ pub record SameCounts (s t : List ℕ) : Type 0 where
   pub still-open : openIn s ≡ openIn t
 
 pub record OneBook (s : List ℕ) : Type 0 where
+  -- "a refused book [..] is counted apart": by whatever it is refused
+  pub accepted : readingOf s .answer ≡ Accepted → refusedIn s ≡ 0
+  pub refused : (r : Refusal) → readingOf s .answer ≡ Refused r → refusedIn s ≡ 1
   pub adds-up : committedIn s + backedOutIn s + openIn s ≡ begunIn s
   -- "a refused book adds its accepted opening": that is a book accepted whole, and it has the same counts
   pub opening : (at : ℕ) → length s ≤ mostBytes → tablesBy Forbidden (editionOf s) s .answer ≡ Read at
@@ -91,7 +106,8 @@ pub record TermTotals (books : List (List ℕ)) : Type 0 where
 
 pub record TermFigures : Type 0 where
   pub saga : (tables : Tables) (s : State) (i : ℕ) → SagaStands tables s i
+  pub once : (tables : Tables) (s : State) → EachOnce tables s
   pub book : (s : List ℕ) → OneBook s
   pub term : (books : List (List ℕ)) → TermTotals books
-  -- "up to 1,000 books", and 23 for one more
-  pub numbers : (mostBooks ≡ 1000) × (answerNumber TooManyBooks ≡ 23)
+  -- "up to 1,000 books", 23 for one more, and the number of its refusal for a book that was read, 0 for an accepted one
+  pub numbers : (mostBooks ≡ 1000) × ((answerNumber TooManyBooks ≡ 23) × ((v : Verdict) → answerNumber (Counted v) ≡ verdictNumber v))

@@ -13,6 +13,7 @@ use Rattle.cells.specs.Cells.{opsIn}
 use Rattle.tables.specs.Sorts.{isKnown}
 use Rattle.rules.specs.Rules.{commitBarred}
 use Rattle.terms.specs.declared.Event.the-variants.{Commit}
+use Rattle.judge.specs.Known.{Ringed}
 use Rattle.judge.specs.Judge.{commitLines, changeOf, ruledBy}
 use Rattle.judge.specs.declared.Ruling.{Ruling}
 use Rattle.judge.proofs.RuleLaws.{ruled-passed, ruled-stopped}
@@ -62,11 +63,10 @@ past5 c tables h =
     let a = s .args in
     past4 (c .before .before) tables h ∙ ruled-passed (rest 4 s tables) (changeOf (Commit (s .args .t))) (sym (c .before .dirty .ensures) ∙ c .if5 .left)
 
-past6 : (c : tie.Else6) (tables : Tables) → Held (c .before .before .before .before .before .before .before .before .before .before .before .before) tables → from 0 (c .before .before .before .before .before .before .before .before .before .before .before .before) tables ≡ from 6 (c .before .before .before .before .before .before .before .before .before .before .before .before) tables
-past6 c tables h =
+past6 : (c : tie.Else6) (tables : Tables) → let s = c .before .before .before .before .before .before .before .before .before .before .before .before in Held s tables → Ringed (opsIn (s .args .ops .now) (s .args .n)) (s .args .ringed) → from 0 s tables ≡ from 6 s tables
+past6 c tables h k =
     let s = c .before .before .before .before .before .before .before .before .before .before .before .before in
-    let a = s .args in
-    past5 (c .before .before) tables h ∙ ruled-passed (rest 5 s tables) (changeOf (Commit (s .args .t))) (sym (c .before .on-ring .ensures) ∙ c .if6 .left)
+    past5 (c .before .before) tables h ∙ ruled-passed (rest 5 s tables) (changeOf (Commit (s .args .t))) (sym (c .before .is-ringed .ensures k) ∙ c .if6 .left)
 
 unknown-requires : tie.Need-unknown-requires
 unknown-requires c κs = search needs
@@ -75,7 +75,7 @@ refused-requires : tie.Need-refused-requires
 refused-requires c κs = search needs
 
 returns : tie.Need-returns
-returns c tables h =
+returns c tables h k =
     let s = c .before .before .before in
     let a = s .args in
     c .refused .ensures ∙ sym (ruled-stopped (rest 0 s tables) (changeOf (Commit (s .args .t))) (sym (sorted (λ (x : Sort). not (isKnown x)) (a .sheet .now) tables h (a .t) (c .before .before .unknown .ensures)) ∙ c .before .if1 .taken))
@@ -87,7 +87,7 @@ refused-requires-2 : tie.Need-refused-requires-2
 refused-requires-2 c κs = search needs
 
 returns-2 : tie.Need-returns-2
-returns-2 c tables h =
+returns-2 c tables h k =
     let s = c .before .before .before .before .before in
     let a = s .args in
     c .refused2 .ensures ∙ sym (past1 (c .before .before .before) tables h ∙ ruled-stopped (rest 1 s tables) (changeOf (Commit (s .args .t))) (sym (c .before .before .inactive .ensures) ∙ c .before .if2 .taken))
@@ -99,7 +99,7 @@ refused-requires-3 : tie.Need-refused-requires-3
 refused-requires-3 c κs = search needs
 
 returns-3 : tie.Need-returns-3
-returns-3 c tables h =
+returns-3 c tables h k =
     let s = c .before .before .before .before .before .before .before in
     let a = s .args in
     c .refused3 .ensures ∙ sym (past2 (c .before .before .before) tables h ∙ ruled-stopped (rest 2 s tables) (changeOf (Commit (s .args .t))) (sym (sorted (commitBarred (transactionsIn (a .transactions .now))) (a .sheet .now) tables h (a .t) (c .before .before .commit-forbidden .ensures)) ∙ c .before .if3 .taken))
@@ -111,7 +111,7 @@ refused-requires-4 : tie.Need-refused-requires-4
 refused-requires-4 c κs = search needs
 
 returns-4 : tie.Need-returns-4
-returns-4 c tables h =
+returns-4 c tables h k =
     let s = c .before .before .before .before .before .before .before .before .before in
     let a = s .args in
     c .refused4 .ensures ∙ sym (past3 (c .before .before .before) tables h ∙ ruled-stopped (rest 3 s tables) (changeOf (Commit (s .args .t))) (sym (c .before .before .declared-bars .ensures tables h) ∙ c .before .if4 .taken))
@@ -123,28 +123,28 @@ refused-requires-5 : tie.Need-refused-requires-5
 refused-requires-5 c κs = search needs
 
 returns-5 : tie.Need-returns-5
-returns-5 c tables h =
+returns-5 c tables h k =
     let s = c .before .before .before .before .before .before .before .before .before .before .before in
     let a = s .args in
     c .refused5 .ensures ∙ sym (past4 (c .before .before .before) tables h ∙ ruled-stopped (rest 4 s tables) (changeOf (Commit (s .args .t))) (sym (c .before .before .dirty .ensures) ∙ c .before .if5 .taken))
 
-on-ring-requires : tie.Need-on-ring-requires
-on-ring-requires c κs = search needs
+is-ringed-requires : tie.Need-is-ringed-requires
+is-ringed-requires c κs = search needs
 
 refused-requires-6 : tie.Need-refused-requires-6
 refused-requires-6 c κs = search needs
 
 returns-6 : tie.Need-returns-6
-returns-6 c tables h =
+returns-6 c tables h k =
     let s = c .before .before .before .before .before .before .before .before .before .before .before .before .before in
     let a = s .args in
-    c .refused6 .ensures ∙ sym (past5 (c .before .before .before) tables h ∙ ruled-stopped (rest 5 s tables) (changeOf (Commit (s .args .t))) (sym (c .before .before .on-ring .ensures) ∙ c .before .if6 .taken))
+    c .refused6 .ensures ∙ sym (past5 (c .before .before .before) tables h ∙ ruled-stopped (rest 5 s tables) (changeOf (Commit (s .args .t))) (sym (c .before .before .is-ringed .ensures k) ∙ c .before .if6 .taken))
 
 accepted-requires : tie.Need-accepted-requires
 accepted-requires c κs = search needs
 
 returns-7 : tie.Need-returns-7
-returns-7 c tables h = c .accepted .ensures ∙ sym (past6 (c .before) tables h)
+returns-7 c tables h k = c .accepted .ensures ∙ sym (past6 (c .before) tables h k)
 
 pub commit-spec : {M : Type 1} → statement M
 commit-spec =
@@ -165,7 +165,7 @@ commit-spec =
     dirty-requires
     refused-requires-5
     returns-5
-    on-ring-requires
+    is-ringed-requires
     refused-requires-6
     returns-6
     accepted-requires

@@ -62,7 +62,7 @@ enum-told-2 : tie.Need-enum-told-2
 enum-told-2 c = search needs
 
 returns : tie.Need-returns
-returns c tables h =
+returns c tables h k =
     let s = c .before .before .before in
     shared-refused (shared s tables) (own s) (changeOf (CommitOne (s .args .t) (s .args .q))) (c .before .before .single .ensures tables h) _ (c .enum-told2 .given .1)
 
@@ -73,22 +73,22 @@ refused-requires : tie.Need-refused-requires
 refused-requires c κs = search needs
 
 returns-2 : tie.Need-returns-2
-returns-2 c tables h = let s = c .before .before .before .before .before .before in c .refused .ensures ∙ sym (allowed (c .before .before .before) tables h ∙ ruled-stopped (own s) (changeOf (CommitOne (s .args .t) (s .args .q))) (dirty-is (c .before .before) tables h ∙ c .before .if1 .taken))
+returns-2 c tables h k = let s = c .before .before .before .before .before .before in c .refused .ensures ∙ sym (allowed (c .before .before .before) tables h ∙ ruled-stopped (own s) (changeOf (CommitOne (s .args .t) (s .args .q))) (dirty-is (c .before .before) tables h ∙ c .before .if1 .taken))
 
-on-ring-requires : tie.Need-on-ring-requires
-on-ring-requires c κs = search needs
+is-ringed-requires : tie.Need-is-ringed-requires
+is-ringed-requires c κs = search needs
 
 refused-requires-2 : tie.Need-refused-requires-2
 refused-requires-2 c κs = search needs
 
 returns-3 : tie.Need-returns-3
-returns-3 c tables h = let s = c .before .before .before .before .before .before .before .before in c .refused2 .ensures ∙ sym (clean (c .before .before .before) tables h ∙ ruled-stopped (last s) (changeOf (CommitOne (s .args .t) (s .args .q))) (sym (c .before .before .on-ring .ensures) ∙ c .before .if2 .taken))
+returns-3 c tables h k = let s = c .before .before .before .before .before .before .before .before in c .refused2 .ensures ∙ sym (clean (c .before .before .before) tables h ∙ ruled-stopped (last s) (changeOf (CommitOne (s .args .t) (s .args .q))) (sym (c .before .before .is-ringed .ensures k) ∙ c .before .if2 .taken))
 
 accepted-requires : tie.Need-accepted-requires
 accepted-requires c κs = search needs
 
 returns-4 : tie.Need-returns-4
-returns-4 c tables h = let s = c .before .before .before .before .before .before .before .before in c .accepted .ensures ∙ sym (clean (c .before .before .before) tables h ∙ ruled-passed (last s) (changeOf (CommitOne (s .args .t) (s .args .q))) (sym (c .before .before .on-ring .ensures) ∙ c .before .if2 .left))
+returns-4 c tables h k = let s = c .before .before .before .before .before .before .before .before in c .accepted .ensures ∙ sym (clean (c .before .before .before) tables h ∙ ruled-passed (last s) (changeOf (CommitOne (s .args .t) (s .args .q))) (sym (c .before .before .is-ringed .ensures k) ∙ c .before .if2 .left))
 
 pub commit-one-spec : {M : Type 1} → statement M
 commit-one-spec =
@@ -101,7 +101,7 @@ commit-one-spec =
     dirty-one-requires
     refused-requires
     returns-2
-    on-ring-requires
+    is-ringed-requires
     refused-requires-2
     returns-3
     accepted-requires

@@ -11,8 +11,11 @@ use Rattle.tables.specs.declared.Tables.{Tables}
 use Rattle.sheet.specs.Sheet.{Holds}
 use Rattle.rules.specs.States.{emptyState}
 use Rattle.rules.specs.declared.State.{State}
+use Rattle.cells.specs.Cells.{opsIn}
+use Rattle.judge.specs.Known.{Ringed}
 use Rattle.judge.specs.Lent.{stateIn}
 use Rattle.judge.proofs.ChangeLaws.{empty-in}
+use Rattle.judge.proofs.KnownLaws.{none-ringed}
 use Rattle.onward.specs.Onward.{Finds, refusedAfter, refusedFrom}
 use Rattle.onward.specs.declared.Found.{Found}
 use Rattle.onward.specs.declared.No.{No}
@@ -23,15 +26,15 @@ use Rattle.listing.proofs.put_no_lines_from.Statement.{statement}
 use Rattle.listing.proofs.put_no_lines_from.Tie as tie
 
 abbrev Inv-loop : tie.InvT-loop
-Inv-loop book ed start count at room₀ sheet transactions₀ ops₀ cursor₀ left₀ end₀ room transactions ops cursor left end =
+Inv-loop book ed start count at room₀ sheet transactions₀ ops₀ cursor₀ ringed₀ left₀ end₀ room transactions ops cursor ringed left end =
     (length room ≡ length room₀)
     × ((tables : Tables) → Holds tables sheet → length book ≤ mostBytes
     → Laying at (noLines (take count (refusedFrom tables emptyState 0 (itemsAfter ed book start)))) room₀ end
     (noLines (take left (refusedAfter tables ed book (stateIn transactions ops (cursor .count)) cursor))) room
-    × (cursor .index ≤ cursor .place))
+    × (cursor .index ≤ cursor .place) × Ringed (opsIn ops (cursor .count)) ringed)
 
 abbrev μ-loop : tie.MeasureT-loop
-μ-loop book ed start count at room₀ sheet transactions₀ ops₀ cursor₀ left₀ end₀ room transactions ops cursor left end =
+μ-loop book ed start count at room₀ sheet transactions₀ ops₀ cursor₀ ringed₀ left₀ end₀ room transactions ops cursor ringed left end =
     left
 
 sheet-of-requires : tie.Need-sheet-of-requires Inv-loop μ-loop
@@ -47,15 +50,15 @@ to-come : (c : tie.After-known-told Inv-loop μ-loop) (tables : Tables) → Hold
     length (now (a .book)) ≤ mostBytes
     → Laying (a .at) (noLines (take (a .count) (refusedFrom tables emptyState 0 (itemsAfter (a .edition) (now (a .book)) (a .start))))) (now (a .room)) (l .end)
     (noLine (c .before .found .given .0 .0) ++ noLines (take (l .left - 1) (refusedAfter tables (a .edition) (now (a .book)) (stateIn ts ops (after .count)) after))) (l .room)
-    × (after .index ≤ after .place)
+    × (after .index ≤ after .place) × Ringed (opsIn ops (after .count)) (c .before .found .given .0 .1 .1 .0)
 to-come c tables h short =
     let a = c .before .before .before .before .before .before .before .before .before .before .before .before .args in
     let l = c .before .before .before .before .before .before .before .before .loop in
     let n = c .before .before .before .next-refused in
     let so = l .inv .1 tables h short in
-    let next = subst (λ (f : Found). Finds tables (a .edition) (now (a .book)) (stateIn (l .transactions) (l .ops) (l .cursor .count)) (l .cursor) f (n .last .1 .1 .1 .0) (n .last .1 .1 .1 .1 .0)) (c .before .found .given .1) (n .ensures tables h short (so .1)) in
+    let next = subst (λ (f : Found). Finds tables (a .edition) (now (a .book)) (stateIn (l .transactions) (l .ops) (l .cursor .count)) (l .cursor) f (n .last .1 .1 .1 .0) (n .last .1 .1 .1 .1 .0)) (c .before .found .given .1) (n .ensures tables h short (so .1) (so .2)) in
     let some : 0 < l .left = omega arith in
-    (laying-same (so .0) (ap (λ (r : List No). noLines (take (l .left) r)) (next .0) ∙ nos-step (l .left) _ _ some), next .1)
+    (laying-same (so .0) (ap (λ (r : List No). noLines (take (l .left) r)) (next .0) ∙ nos-step (l .left) _ _ some), next .1, next .2)
 
 loop-holds : tie.Need-loop-holds Inv-loop μ-loop
 loop-holds c =
@@ -65,6 +68,7 @@ loop-holds c =
         laying-same (laying-start (a .at) (noLines (take (a .count) (refusedFrom tables emptyState 0 (itemsAfter (a .edition) (now (a .book)) (a .start))))) (now (a .room)))
             (ap (λ (s : State). noLines (take (a .count) (refusedFrom tables s 0 (itemsAfter (a .edition) (now (a .book)) (a .start))))) (sym empty-in)),
         omega arith,
+        none-ringed _,
       ),
     )
 
@@ -94,7 +98,7 @@ loop-again c =
       p .kept .1 .1 .0 ∙ l .inv .0,
       λ tables h short.
           let go = to-come (c .before .before .before .before) tables h short in
-          (laying-more (noLine (c .before .before .before .before .before .found .given .0 .0)) _ (p .result) (p .last .1 .1 .0) (go .0) (p .ensures) (p .kept .1 .1 .0), go .1),
+          (laying-more (noLine (c .before .before .before .before .before .found .given .0 .0)) _ (p .result) (p .last .1 .1 .0) (go .0) (p .ensures) (p .kept .1 .1 .0), go .1, go .2),
     )
 
 enum-told : tie.Need-enum-told Inv-loop μ-loop
@@ -111,7 +115,7 @@ returns c =
     let n = c .before .before .next-refused in
     let h = c .before .before .before .before .before .before .before .before .sheet-of .ensures (pre .0) in
     let so = l .inv .1 (a .tables) h (pre .1 .0) in
-    let none = subst (λ (x : Found). Finds (a .tables) (a .edition) (now (a .book)) (stateIn (l .transactions) (l .ops) (l .cursor .count)) (l .cursor) x (n .last .1 .1 .1 .0) (n .last .1 .1 .1 .1 .0)) (c .enum-told .given .1) (n .ensures (a .tables) h (pre .1 .0) (so .1)) in
+    let none = subst (λ (x : Found). Finds (a .tables) (a .edition) (now (a .book)) (stateIn (l .transactions) (l .ops) (l .cursor .count)) (l .cursor) x (n .last .1 .1 .1 .0) (n .last .1 .1 .1 .1 .0)) (c .enum-told .given .1) (n .ensures (a .tables) h (pre .1 .0) (so .1) (so .2)) in
     laying-done (so .0) (nos-none (l .left) none)
 
 same-length-2 : tie.Need-same-length-2 Inv-loop μ-loop
