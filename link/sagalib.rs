@@ -15,11 +15,20 @@ pub const MOST_1: u32 = 65_535;
 /// The largest field of a book of edition 2.
 pub const MOST_2: u32 = 2_097_151;
 
-/// A room of so many bytes holds every listing.
-pub const LISTING_BYTES: usize = 427_927;
+/// The most sagas that a book has.
+pub const SAGAS: usize = 16;
 
 /// The most transactions that a book has: a list of so many numbers holds every order to replay in.
 pub const TRANSACTIONS: usize = 64;
+
+/// The most operations that a book has.
+pub const OPERATIONS: usize = 256;
+
+/// A room of so many bytes holds every listing.
+pub const LISTING_BYTES: usize = 427_927;
+
+/// A room of so many bytes holds every line of a listing.
+pub const LINE_BYTES: usize = 104;
 
 /// How a book is read.
 #[derive(Clone, Copy, Debug, PartialEq, Eq)]
@@ -58,20 +67,92 @@ pub struct Answer {
     pub count: u64,
 }
 
-/// An event that closes a saga, with its transaction.
+/// What an operation does to its object.
+#[derive(Clone, Copy, Debug, PartialEq, Eq)]
+pub enum Mark {
+    Read,
+    Write,
+}
+
+/// An event of a book, with its fields.
 #[derive(Clone, Copy, Debug, PartialEq, Eq)]
 pub enum Event {
     Begin(u64),
     Commit(u64),
     Abort(u64),
+    /// Transaction, object, mark, and the record, which is looked at in a book of edition 2 alone.
+    Operation(u64, u64, Mark, u64),
+    /// Transaction, receiver, operation number.
+    Delegate(u64, u64, u64),
+    /// Transaction, operation number.
+    CommitOne(u64, u64),
+    /// Transaction, operation number.
+    AbortOne(u64, u64),
+}
+
+impl Event {
+    /// Its code and the fields that follow it in a book; 0 past them.
+    fn numbers(self) -> [u64; 5] {
+        match self {
+            Event::Begin(t) => [1, t, 0, 0, 0],
+            Event::Commit(t) => [2, t, 0, 0, 0],
+            Event::Abort(t) => [3, t, 0, 0, 0],
+            Event::Operation(t, object, Mark::Read, record) => [4, t, object, 0, record],
+            Event::Operation(t, object, Mark::Write, record) => [4, t, object, 1, record],
+            Event::Delegate(t, receiver, operation) => [5, t, receiver, operation, 0],
+            Event::CommitOne(t, operation) => [6, t, operation, 0, 0],
+            Event::AbortOne(t, operation) => [7, t, operation, 0, 0],
+        }
+    }
 }
 
 /// The closing step of a saga.
 #[derive(Clone, Copy, Debug, PartialEq, Eq)]
 pub struct Step {
+    /// A begin, a commit or an abort, if there is something to do.
     pub event: Option<Event>,
     /// How many steps are left, this one counted: 0 when there is no step.
     pub outstanding: u64,
+    /// Whether the saga is finished or put back; not so if it is not begun or still owes something.
+    pub settled: bool,
+}
+
+/// How a transaction stands, or an operation, which is never idle.
+#[derive(Clone, Copy, Debug, PartialEq, Eq)]
+pub enum Phase {
+    Idle,
+    Active,
+    Committed,
+    Aborted,
+}
+
+/// An operation.
+#[derive(Clone, Copy, Debug, PartialEq, Eq)]
+pub struct Operation {
+    pub object: u64,
+    pub mark: Mark,
+    /// Its responsible transaction.
+    pub responsible: u64,
+    pub phase: Phase,
+}
+
+/// How many there are of each, how much is left, and who is active.
+#[derive(Clone, Copy, Debug, PartialEq, Eq)]
+pub struct Tally {
+    pub sagas: u64,
+    pub transactions: u64,
+    /// Operations accepted so far, which is the number of the next one.
+    pub operations: u64,
+    /// Events accepted; counted up to 65,536, as many as no book has.
+    pub accepted: u64,
+    /// Events refused and passed over, in the book or by `Desk::take`; counted up to 65,536.
+    pub refused: u64,
+    /// What is outstanding over all sagas.
+    pub left: u64,
+    /// How many transactions are active.
+    pub active: u64,
+    /// The lowest of them, 64 if there is none.
+    pub lowest: u64,
 }
 
 /// The book that came of mending one.
@@ -117,62 +198,146 @@ mod archive {
     // A slice crosses as a pointer and how many elements it has.
     #[link(name = "sagalib", kind = "static")]
     extern "C" {
-        pub fn saga_read(book: *const u8, book_size: usize, way: u64, answer: *mut [u64; 4]);
+        pub fn saga_read(book: *const u8, book_count: usize, way: u64, answer: *mut [u64; 4]);
         pub fn saga_refused(
             book: *const u8,
-            book_size: usize,
+            book_count: usize,
             way: u64,
             skip: u64,
             list: *mut u64,
-            list_size: usize,
+            list_count: usize,
         ) -> u64;
-        pub fn saga_opening(book: *const u8, book_size: usize) -> u64;
+        pub fn saga_opening(book: *const u8, book_count: usize) -> u64;
         pub fn saga_listing(
             book: *const u8,
-            book_size: usize,
+            book_count: usize,
             way: u64,
             room: *mut u8,
-            room_size: usize,
+            room_count: usize,
             answer: *mut [u64; 4],
         );
         pub fn saga_next(
             book: *const u8,
-            book_size: usize,
+            book_count: usize,
             way: u64,
             saga: u64,
-            step: *mut [u64; 3],
+            step: *mut [u64; 4],
         );
-        pub fn saga_left(book: *const u8, book_size: usize, way: u64) -> u64;
+        pub fn saga_left(book: *const u8, book_count: usize, way: u64) -> u64;
         pub fn saga_replay(
             book: *const u8,
-            book_size: usize,
+            book_count: usize,
             way: u64,
             list: *mut u16,
-            list_size: usize,
+            list_count: usize,
             answer: *mut [u64; 4],
         );
         pub fn saga_mend(
             book: *const u8,
-            book_size: usize,
+            book_count: usize,
             room: *mut u8,
-            room_size: usize,
+            room_count: usize,
             answer: *mut [u64; 4],
             mended: *mut [u64; 3],
         );
-        pub fn saga_add(book: *const u8, book_size: usize, totals: *mut [u64; 6]) -> u64;
+        pub fn saga_add(book: *const u8, book_count: usize, totals: *mut [u64; 6]) -> u64;
         pub fn saga_share(totals: *const [u64; 6], share: *mut [u64; 2]);
         pub fn saga_unpack(
             book: *const u8,
-            book_size: usize,
+            book_count: usize,
             room: *mut u32,
-            room_size: usize,
+            room_count: usize,
             answer: *mut [u64; 4],
         );
         pub fn saga_write(
             fields: *const u32,
             field_count: usize,
             room: *mut u8,
-            room_size: usize,
+            room_count: usize,
+            answer: *mut [u64; 4],
+        );
+        pub fn saga_lent_open(
+            book: *const u8,
+            book_count: usize,
+            way: u64,
+            sheet: *mut [u32; 195],
+            transactions: *mut [u32; 64],
+            operations: *mut [u32; 256],
+            records: *mut [u32; 256],
+            steps: *mut [u8; 16],
+            counts: *mut [u64; 9],
+            answer: *mut [u64; 4],
+        );
+        pub fn saga_lent_ask(
+            sheet: *const [u32; 195],
+            transactions: *const [u32; 64],
+            operations: *const [u32; 256],
+            counts: *const [u64; 9],
+            code: u64,
+            a: u64,
+            b: u64,
+            c: u64,
+            d: u64,
+        ) -> u64;
+        pub fn saga_lent_take(
+            sheet: *const [u32; 195],
+            transactions: *mut [u32; 64],
+            operations: *mut [u32; 256],
+            records: *mut [u32; 256],
+            counts: *mut [u64; 9],
+            code: u64,
+            a: u64,
+            b: u64,
+            c: u64,
+            d: u64,
+        ) -> u64;
+        pub fn saga_lent_phase(
+            sheet: *const [u32; 195],
+            transactions: *const [u32; 64],
+            transaction: u64,
+        ) -> u64;
+        pub fn saga_lent_operation(
+            operations: *const [u32; 256],
+            counts: *const [u64; 9],
+            number: u64,
+            answer: *mut [u64; 4],
+        );
+        pub fn saga_lent_next(
+            transactions: *const [u32; 64],
+            operations: *const [u32; 256],
+            steps: *const [u8; 16],
+            counts: *const [u64; 9],
+            saga: u64,
+            step: *mut [u64; 4],
+        );
+        pub fn saga_lent_tally(
+            transactions: *const [u32; 64],
+            steps: *const [u8; 16],
+            counts: *const [u64; 9],
+            tally: *mut [u64; 8],
+        );
+        pub fn saga_lent_pairs(
+            transactions: *const [u32; 64],
+            operations: *const [u32; 256],
+            counts: *const [u64; 9],
+            rows: *mut [u64; 64],
+        );
+        pub fn saga_lent_replay(
+            operations: *const [u32; 256],
+            counts: *const [u64; 9],
+            list: *mut u16,
+            list_count: usize,
+            answer: *mut [u64; 4],
+        );
+        pub fn saga_lent_line(
+            transactions: *const [u32; 64],
+            operations: *const [u32; 256],
+            records: *const [u32; 256],
+            steps: *const [u8; 16],
+            counts: *const [u64; 9],
+            line: u64,
+            room: *mut u8,
+            room_count: usize,
             answer: *mut [u64; 4],
         );
     }
@@ -237,19 +402,29 @@ pub fn listing(book: &[u8], way: Way, room: &mut [u8]) -> Answer {
     answered(answer)
 }
 
-/// What is to be done next for the saga of an index, counted from 0, after the accepted events of a book. Above 0 outstanding, the step is
-/// accepted as the next event and leaves one less. An index that is no saga's has nothing to do.
-pub fn next(book: &[u8], way: Way, saga: u64) -> Step {
-    let mut step = [0; 3];
-    unsafe { archive::saga_next(book.as_ptr(), book.len(), way.number(), saga, &mut step) };
-    let [event, transaction, outstanding] = step;
+/// A closing step by its numbers; none if there is no such saga.
+fn step_of(numbers: [u64; 4]) -> Option<Step> {
+    let [event, transaction, outstanding, settled] = numbers;
     let event = match event {
+        0 => None,
         1 => Some(Event::Begin(transaction)),
         2 => Some(Event::Commit(transaction)),
         3 => Some(Event::Abort(transaction)),
-        _ => None,
+        _ => return None,
     };
-    Step { event, outstanding }
+    Some(Step {
+        event,
+        outstanding,
+        settled: settled == 1,
+    })
+}
+
+/// What is to be done next for the saga of an index, counted from 0, after the accepted events of a book. Above 0 outstanding, the step is
+/// accepted as the next event and leaves one less. There is no such saga for an index past the last, nor for any where the tables are refused.
+pub fn next(book: &[u8], way: Way, saga: u64) -> Option<Step> {
+    let mut step = [0; 4];
+    unsafe { archive::saga_next(book.as_ptr(), book.len(), way.number(), saga, &mut step) };
+    step_of(step)
 }
 
 /// How much is left after the accepted events of a book: the sum of what is outstanding over all sagas. Taking all closing steps, saga after saga,
@@ -374,4 +549,215 @@ pub fn write(fields: &[u32], room: &mut [u8]) -> Answer {
         )
     };
     answered(answer)
+}
+
+/// A desk: what the tables of a book say and how everything stands after its events, in numbers. It is opened on a book once; then each event is
+/// asked, or taken behind all others, and the book is not read again. What it tells is what the functions above tell of the book with the events
+/// behind it that were taken and accepted.
+///
+/// A desk that was opened where a refusal ended the reading takes nothing more: asking and taking answer that refusal. So the book is cut to
+/// its `opening` first.
+///
+/// Its numbers may be put aside and taken up again by the same edition of this library. Numbers of any value are safe; what is then told means
+/// nothing.
+#[derive(Clone, Debug, PartialEq, Eq)]
+pub struct Desk {
+    pub counts: [u64; 9],
+    pub sheet: [u32; 195],
+    pub transactions: [u32; TRANSACTIONS],
+    pub operations: [u32; OPERATIONS],
+    pub records: [u32; OPERATIONS],
+    pub steps: [u8; SAGAS],
+}
+
+fn phase_of(number: u64) -> Option<Phase> {
+    match number {
+        0 => Some(Phase::Idle),
+        1 => Some(Phase::Active),
+        2 => Some(Phase::Committed),
+        3 => Some(Phase::Aborted),
+        _ => None,
+    }
+}
+
+/// The number of a refusal, unless it is 0.
+fn unless_refused(number: u64) -> Result<(), u64> {
+    match number {
+        0 => Ok(()),
+        _ => Err(number),
+    }
+}
+
+impl Desk {
+    /// Opens a desk on a book that is read in one of the ways; the answer is that of `read`.
+    pub fn open(book: &[u8], way: Way) -> (Desk, Answer) {
+        let mut desk = Desk {
+            counts: [0; 9],
+            sheet: [0; 195],
+            transactions: [0; TRANSACTIONS],
+            operations: [0; OPERATIONS],
+            records: [0; OPERATIONS],
+            steps: [0; SAGAS],
+        };
+        let mut answer = [0; 4];
+        unsafe {
+            archive::saga_lent_open(
+                book.as_ptr(),
+                book.len(),
+                way.number(),
+                &mut desk.sheet,
+                &mut desk.transactions,
+                &mut desk.operations,
+                &mut desk.records,
+                &mut desk.steps,
+                &mut desk.counts,
+                &mut answer,
+            )
+        };
+        (desk, answered(answer))
+    }
+
+    /// Whether an event would be accepted behind all others; if not, the number of its refusal.
+    pub fn ask(&self, event: Event) -> Result<(), u64> {
+        let [code, a, b, c, d] = event.numbers();
+        unless_refused(unsafe {
+            archive::saga_lent_ask(
+                &self.sheet,
+                &self.transactions,
+                &self.operations,
+                &self.counts,
+                code,
+                a,
+                b,
+                c,
+                d,
+            )
+        })
+    }
+
+    /// Takes an event behind all others, if it is accepted; if not, the number of its refusal. A refused event is counted and changes nothing else.
+    pub fn take(&mut self, event: Event) -> Result<(), u64> {
+        let [code, a, b, c, d] = event.numbers();
+        unless_refused(unsafe {
+            archive::saga_lent_take(
+                &self.sheet,
+                &mut self.transactions,
+                &mut self.operations,
+                &mut self.records,
+                &mut self.counts,
+                code,
+                a,
+                b,
+                c,
+                d,
+            )
+        })
+    }
+
+    /// How a transaction stands, if there is such a transaction.
+    pub fn phase(&self, transaction: u64) -> Option<Phase> {
+        phase_of(unsafe { archive::saga_lent_phase(&self.sheet, &self.transactions, transaction) })
+    }
+
+    /// The operation of a number, if there is such an operation.
+    pub fn operation(&self, number: u64) -> Option<Operation> {
+        let mut answer = [0; 4];
+        unsafe {
+            archive::saga_lent_operation(&self.operations, &self.counts, number, &mut answer)
+        };
+        let [object, mark, responsible, phase] = answer;
+        match phase_of(phase) {
+            None | Some(Phase::Idle) => None,
+            Some(phase) => Some(Operation {
+                object,
+                mark: if mark == 0 { Mark::Read } else { Mark::Write },
+                responsible,
+                phase,
+            }),
+        }
+    }
+
+    /// What is to be done next for the saga of an index, if there is such a saga.
+    pub fn next(&self, saga: u64) -> Option<Step> {
+        let mut step = [0; 4];
+        unsafe {
+            archive::saga_lent_next(
+                &self.transactions,
+                &self.operations,
+                &self.steps,
+                &self.counts,
+                saga,
+                &mut step,
+            )
+        };
+        step_of(step)
+    }
+
+    /// How many there are of each, how much is left, and who is active.
+    pub fn tally(&self) -> Tally {
+        let mut tally = [0; 8];
+        unsafe {
+            archive::saga_lent_tally(&self.transactions, &self.steps, &self.counts, &mut tally)
+        };
+        let [sagas, transactions, operations, accepted, refused, left, active, lowest] = tally;
+        Tally {
+            sagas,
+            transactions,
+            operations,
+            accepted,
+            refused,
+            left,
+            active,
+            lowest,
+        }
+    }
+
+    /// Who stands before whom by one tie: bit b of row a is 1 if transaction a stands before b.
+    pub fn pairs(&self) -> [u64; TRANSACTIONS] {
+        let mut rows = [0; TRANSACTIONS];
+        unsafe {
+            archive::saga_lent_pairs(
+                &self.transactions,
+                &self.operations,
+                &self.counts,
+                &mut rows,
+            )
+        };
+        rows
+    }
+
+    /// The order to replay in, as `replay` tells it of a book.
+    pub fn replay(&self, list: &mut [u16]) -> Answer {
+        let mut answer = [0; 4];
+        unsafe {
+            archive::saga_lent_replay(
+                &self.operations,
+                &self.counts,
+                list.as_mut_ptr(),
+                list.len(),
+                &mut answer,
+            )
+        };
+        answered(answer)
+    }
+
+    /// Puts one line of the listing at the front of the room, counted from 0: the first line, then those of transactions, operations and sagas; the
+    /// lines of refused events are not among them. The count is 0 where there is no such line; 19 is the only refusal.
+    pub fn line(&self, line: u64, room: &mut [u8]) -> Answer {
+        let mut answer = [0; 4];
+        unsafe {
+            archive::saga_lent_line(
+                &self.transactions,
+                &self.operations,
+                &self.records,
+                &self.steps,
+                &self.counts,
+                line,
+                room.as_mut_ptr(),
+                room.len(),
+                &mut answer,
+            )
+        };
+        answered(answer)
+    }
 }

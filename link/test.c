@@ -7,8 +7,11 @@ int memcmp(const void *a, const void *b, size_t n);
 void *memcpy(void *to, const void *from, size_t n);
 
 _Static_assert(sizeof(struct saga_answer) == 4 * sizeof(uint64_t), "an answer is four numbers");
-_Static_assert(sizeof(struct saga_step) == 3 * sizeof(uint64_t), "a step is three numbers");
+_Static_assert(sizeof(struct saga_step) == 4 * sizeof(uint64_t), "a step is four numbers");
 _Static_assert(sizeof(struct saga_mended) == 3 * sizeof(uint64_t), "what came of mending is three numbers");
+_Static_assert(sizeof(struct saga_operation) == 4 * sizeof(uint64_t), "an operation is four numbers");
+_Static_assert(sizeof(struct saga_tally) == 8 * sizeof(uint64_t), "a tally is eight numbers");
+_Static_assert(sizeof(struct saga_desk) == SAGA_DESK_BYTES, "a desk is as long as it is said to be");
 
 static int differences;
 
@@ -31,22 +34,22 @@ static void check_answer(int line, struct saga_answer a, uint64_t refusal, uint6
 
 #define ANSWER(a, refusal, events, place, count) check_answer(__LINE__, (a), (refusal), (events), (place), (count))
 
-static void check_step(int line, struct saga_step s, uint64_t event, uint64_t transaction, uint64_t outstanding) {
-  if (s.event != event || s.transaction != transaction || s.outstanding != outstanding) {
-    printf("test.c:%d: step %llu %llu %llu\n", line, (unsigned long long)s.event, (unsigned long long)s.transaction,
-           (unsigned long long)s.outstanding);
+static void check_step(int line, struct saga_step s, uint64_t event, uint64_t transaction, uint64_t outstanding, uint64_t settled) {
+  if (s.event != event || s.transaction != transaction || s.outstanding != outstanding || s.settled != settled) {
+    printf("test.c:%d: step %llu %llu %llu %llu\n", line, (unsigned long long)s.event, (unsigned long long)s.transaction,
+           (unsigned long long)s.outstanding, (unsigned long long)s.settled);
     differences += 1;
   }
 }
 
-#define STEP(s, event, transaction, outstanding) check_step(__LINE__, (s), (event), (transaction), (outstanding))
+#define STEP(s, event, transaction, outstanding, settled) check_step(__LINE__, (s), (event), (transaction), (outstanding), (settled))
 
 /* What rooms and answers hold before a call, so that a number that is not written shows. */
 static const uint8_t byte_pattern = 0xA5;
 static const uint32_t field_pattern = 0xA5C3A5C3;
 static const uint16_t order_pattern = 0xA5C3;
 static const struct saga_answer no_answer = {77, 77, 77, 77};
-static const struct saga_step no_step = {77, 77, 77};
+static const struct saga_step no_step = {77, 77, 77, 77};
 static const struct saga_mended no_mended = {77, 77, 77};
 
 static void fill_bytes(uint8_t *room, size_t n) {
@@ -135,10 +138,10 @@ static void the_listing(void) {
   CHECK(saga_opening(listed, listed_size) == 24);
   for (uint64_t way = 0; way < 4; way++) LISTING(listed, listed_size, way, "book accepted 7\n" LATER_LINES, 7);
 
-  STEP(next_step(listed, listed_size, 0), SAGA_BEGIN, 3, 2);
-  STEP(next_step(listed, listed_size, 1), SAGA_NONE, 0, 0);
-  STEP(next_step(listed, listed_size, 16), SAGA_NONE, 0, 0);
-  STEP(next_step(listed, listed_size, UINT64_MAX), SAGA_NONE, 0, 0);
+  STEP(next_step(listed, listed_size, 0), SAGA_BEGIN, 3, 2, 0);
+  STEP(next_step(listed, listed_size, 1), SAGA_NO_SAGA, 0, 0, 0);
+  STEP(next_step(listed, listed_size, 16), SAGA_NO_SAGA, 0, 0, 0);
+  STEP(next_step(listed, listed_size, UINT64_MAX), SAGA_NO_SAGA, 0, 0, 0);
 }
 
 /* P5: the undo is begun and committed. P6: the second step instead. */
@@ -147,9 +150,9 @@ static void after_the_listing(void) {
   memcpy(book, listed, listed_size);
   memcpy(book + 24, "\x01\x03\x02\x03", 4);
   ANSWER(read_book(book, 26), 0, 8, 0, 0);
-  STEP(next_step(book, 26, 0), SAGA_COMMIT, 3, 1);
+  STEP(next_step(book, 26, 0), SAGA_COMMIT, 3, 1, 0);
   ANSWER(read_book(book, 28), 0, 9, 0, 0);
-  STEP(next_step(book, 28, 0), SAGA_NONE, 0, 0);
+  STEP(next_step(book, 28, 0), SAGA_NONE, 0, 0, 1);
 
   book[25] = 0x02;
   ANSWER(read_in_way(book, 26, SAGA_TO_FIRST_REFUSAL), SAGA_SAGA_RULE, 7, 24, 0);
@@ -157,7 +160,7 @@ static void after_the_listing(void) {
   CHECK(saga_opening(book, 26) == 24);
   LISTING(book, 26, SAGA_TO_FIRST_REFUSAL, "book refused 13 7 24\n" LATER_LINES, 7);
   LISTING(book, 26, SAGA_READ_ON, "book accepted 7\nno 7 13\n" LATER_LINES, 7);
-  STEP(next_step(book, 26, 0), SAGA_BEGIN, 3, 2);
+  STEP(next_step(book, 26, 0), SAGA_BEGIN, 3, 2, 0);
 
   uint32_t fields[32];
   struct saga_answer answer = no_answer;
@@ -179,7 +182,7 @@ static void read_on(void) {
           "book accepted 9\nno 8 10\nno 9 13\nt 0 aborted\nt 1 committed\nt 2 idle\nt 3 committed\nt 4 active\n"
           "op 0 0 write 4 active\nsaga 0 0 none\n",
           9);
-  STEP(next_step(book, 32, 0), SAGA_NONE, 0, 0);
+  STEP(next_step(book, 32, 0), SAGA_NONE, 0, 0, 1);
   CHECK(saga_left(book, 32, SAGA_READ_ON) == 0);
   CHECK(saga_left(book, 32, SAGA_TO_FIRST_REFUSAL) == 1);
 
@@ -232,14 +235,14 @@ static void empty_and_torn(void) {
   ANSWER(read_book(listed, 0), SAGA_TORN, 0, 0, 0);
   CHECK(saga_opening(listed, 0) == 0);
   for (uint64_t way = 0; way < 4; way++) LISTING(listed, 0, way, "book refused 2 0 0\n", 0);
-  STEP(next_step(listed, 0, 0), SAGA_NONE, 0, 0);
+  STEP(next_step(listed, 0, 0), SAGA_NO_SAGA, 0, 0, 0);
 
   /* torn before the transaction of the last event: the saga is still active */
   ANSWER(read_book(listed, 23), SAGA_TORN, 6, 23, 0);
   CHECK(saga_opening(listed, 23) == 22);
   LISTING(listed, 23, SAGA_READ_ON,
           "book refused 2 6 23\nt 0 active\nt 1 committed\nt 2 idle\nt 3 idle\nt 4 active\nop 0 0 write 4 active\nsaga 0 3 abort 0\n", 6);
-  STEP(next_step(listed, 23, 0), SAGA_ABORT, 0, 3);
+  STEP(next_step(listed, 23, 0), SAGA_ABORT, 0, 3, 0);
 
   /* torn inside a number */
   uint8_t book[32];
@@ -282,7 +285,7 @@ static void closed_step_by_step(void) {
     CHECK(step.outstanding == left);
     CHECK(saga_left(book, n, SAGA_READ_ON) == left);
   }
-  STEP(step, SAGA_NONE, 0, 0);
+  STEP(step, SAGA_NONE, 0, 0, 1);
 }
 
 /* Transaction 1 changes an object and finishes before 0 does the same; 2, which is still active, has kept its read of it. */
@@ -402,7 +405,7 @@ static void edition_two(void) {
           "book accepted 7\nt 0 aborted\nt 1 committed\nt 2 idle\nt 3 idle\nt 4 active\nop 0 0 write 4 active 2097151\nsaga 0 2 begin 3\n", 7);
   LISTING(book, 27, SAGA_TO_FIRST_REFUSAL,
           "book accepted 7\nt 0 aborted\nt 1 committed\nt 2 idle\nt 3 idle\nt 4 active\nop 0 0 write 4 active 2097151\nsaga 0 2 begin 3\n", 7);
-  STEP(next_step(book, 27, 0), SAGA_BEGIN, 3, 2);
+  STEP(next_step(book, 27, 0), SAGA_BEGIN, 3, 2, 0);
   /* without its record the operation is torn */
   ANSWER(read_book(book, 16), SAGA_TORN, 3, 16, 0);
 
@@ -514,7 +517,7 @@ static void long_books(void) {
   ANSWER(read_book(longest, SAGA_BOOK_BYTES + 1), SAGA_TOO_LONG, 0, 0, 0);
   CHECK(saga_opening(longest, SAGA_BOOK_BYTES + 1) == 0);
   LISTING(longest, SAGA_BOOK_BYTES + 1, SAGA_READ_ON, "book refused 1 0 0\n", 0);
-  STEP(next_step(longest, SAGA_BOOK_BYTES + 1, 0), SAGA_NONE, 0, 0);
+  STEP(next_step(longest, SAGA_BOOK_BYTES + 1, 0), SAGA_NO_SAGA, 0, 0, 0);
   answer = no_answer;
   fill_fields(fields_back, SAGA_BOOK_BYTES + 1);
   saga_unpack(longest, SAGA_BOOK_BYTES + 1, fields_back, SAGA_BOOK_BYTES + 1, &answer);
@@ -583,6 +586,261 @@ static void term_figures(void) {
   SHARE(most, 0, 1);
 }
 
+/* ---- a desk */
+
+static struct saga_answer open_desk(struct saga_desk *desk, const uint8_t *book, size_t n, uint64_t way) {
+  struct saga_answer answer = no_answer;
+  saga_desk_open(desk, book, n, way, &answer);
+  return answer;
+}
+
+/* Two desks have the same numbers. */
+static int same_desk(const struct saga_desk *a, const struct saga_desk *b) {
+  return memcmp(a->counts, b->counts, sizeof a->counts) == 0 && memcmp(a->sheet, b->sheet, sizeof a->sheet) == 0 &&
+         memcmp(a->transactions, b->transactions, sizeof a->transactions) == 0 &&
+         memcmp(a->operations, b->operations, sizeof a->operations) == 0 && memcmp(a->records, b->records, sizeof a->records) == 0 &&
+         memcmp(a->steps, b->steps, sizeof a->steps) == 0;
+}
+
+/* The lines of a desk, one after another, are this text: each in a room that just holds it, and not in one that is a byte too small. */
+static void check_lines(int at, const struct saga_desk *desk, const char *text, uint64_t events) {
+  uint8_t room[SAGA_LINE_BYTES];
+  size_t from = 0;
+  for (uint64_t k = 0;; k++) {
+    struct saga_answer answer = no_answer;
+    fill_bytes(room, sizeof room);
+    saga_desk_line(desk, k, room, sizeof room, &answer);
+    size_t n = answer.count;
+    check_answer(at, answer, 0, events, 0, n);
+    check(at, bytes_untouched(room, n, sizeof room), "behind the line");
+    if (n == 0) break;
+    check(at, from + n <= text_size(text) && memcmp(room, text + from, n) == 0, "the line");
+    from += n;
+
+    fill_bytes(room, sizeof room);
+    saga_desk_line(desk, k, room, n, &answer);
+    check_answer(at, answer, 0, events, 0, n);
+    fill_bytes(room, sizeof room);
+    saga_desk_line(desk, k, room, n - 1, &answer);
+    check_answer(at, answer, SAGA_NO_ROOM, events, 0, 0);
+    check(at, bytes_untouched(room, 0, sizeof room), "a room that is too small");
+  }
+  check(at, from == text_size(text), "all lines");
+}
+
+#define LINES(desk, text, events) check_lines(__LINE__, (desk), (text), (events))
+
+static struct saga_step desk_step(const struct saga_desk *desk, uint64_t saga) {
+  struct saga_step step = no_step;
+  saga_desk_next(desk, saga, &step);
+  return step;
+}
+
+static void check_operation(int at, const struct saga_desk *desk, uint64_t q, uint64_t object, uint64_t mark, uint64_t responsible, uint64_t phase) {
+  struct saga_operation op = {77, 77, 77, 77};
+  saga_desk_operation(desk, q, &op);
+  check(at, op.object == object && op.mark == mark && op.responsible == responsible && op.phase == phase, "the operation");
+}
+
+#define OPERATION(desk, q, object, mark, responsible, phase) check_operation(__LINE__, (desk), (q), (object), (mark), (responsible), (phase))
+
+/* Every question, in each way. */
+static void desk_questions(void) {
+  static const uint64_t phases[] = {SAGA_ABORTED, SAGA_COMMITTED, SAGA_IDLE, SAGA_IDLE, SAGA_ACTIVE, SAGA_NO_TRANSACTION};
+  struct saga_desk desk;
+  for (uint64_t way = 0; way < 4; way++) {
+    ANSWER(open_desk(&desk, listed, listed_size, way), 0, 7, 0, 0);
+    for (uint64_t t = 0; t < 6; t++) CHECK(saga_desk_phase(&desk, t) == phases[t]);
+    CHECK(saga_desk_phase(&desk, 64) == SAGA_NO_TRANSACTION);
+    CHECK(saga_desk_phase(&desk, UINT64_MAX) == SAGA_NO_TRANSACTION);
+    OPERATION(&desk, 0, 0, 1, 4, SAGA_ACTIVE);
+    OPERATION(&desk, 1, 0, 0, 0, SAGA_IDLE);
+    OPERATION(&desk, 256, 0, 0, 0, SAGA_IDLE);
+    OPERATION(&desk, UINT64_MAX, 0, 0, 0, SAGA_IDLE);
+    STEP(desk_step(&desk, 0), SAGA_BEGIN, 3, 2, 0);
+    STEP(desk_step(&desk, 1), SAGA_NO_SAGA, 0, 0, 0);
+    STEP(desk_step(&desk, UINT64_MAX), SAGA_NO_SAGA, 0, 0, 0);
+    struct saga_tally tally;
+    saga_desk_tally(&desk, &tally);
+    CHECK(tally.sagas == 1 && tally.transactions == 5 && tally.operations == 1 && tally.accepted == 7);
+    CHECK(tally.refused == 0 && tally.left == 2 && tally.active == 1 && tally.lowest == 4);
+    LINES(&desk, "book accepted 7\n" LATER_LINES, 7);
+  }
+
+  /* who stands before whom, and the order to replay in */
+  ANSWER(open_desk(&desk, replayed, sizeof replayed, SAGA_READ_ON), 0, 9, 0, 0);
+  uint64_t rows[SAGA_TRANSACTIONS];
+  for (size_t t = 0; t < SAGA_TRANSACTIONS; t++) rows[t] = number_pattern;
+  saga_desk_pairs(&desk, rows);
+  for (size_t t = 0; t < SAGA_TRANSACTIONS; t++) CHECK(rows[t] == (t == 1 ? 5u : t == 0 ? 4u : 0u));
+  uint16_t list[SAGA_TRANSACTIONS];
+  struct saga_answer answer = no_answer;
+  fill_order(list, SAGA_TRANSACTIONS);
+  saga_desk_replay(&desk, list, 3, &answer);
+  ANSWER(answer, 0, 9, 0, 3);
+  CHECK(list[0] == 1 && list[1] == 0 && list[2] == 2 && order_untouched(list, 3, SAGA_TRANSACTIONS));
+  fill_order(list, SAGA_TRANSACTIONS);
+  saga_desk_replay(&desk, list, 2, &answer);
+  ANSWER(answer, SAGA_NO_ROOM, 9, 0, 0);
+  CHECK(order_untouched(list, 0, SAGA_TRANSACTIONS));
+}
+
+/* What is no event, and a desk that takes nothing more. */
+static void desk_refuses(void) {
+  struct saga_desk desk, before;
+  struct saga_tally tally;
+  open_desk(&desk, listed, listed_size, SAGA_READ_ON);
+  before = desk;
+  CHECK(saga_desk_ask(&desk, 0, 0, 0, 0, 0) == SAGA_BAD_CODE);
+  CHECK(saga_desk_take(&desk, 8, 0, 0, 0, 0) == SAGA_BAD_CODE);
+  CHECK(saga_desk_take(&desk, UINT64_MAX, 0, 0, 0, 0) == SAGA_BAD_CODE);
+  CHECK(saga_desk_ask(&desk, SAGA_OPERATION, 4, 0, 2, 0) == SAGA_NOT_IN_TABLES);
+  CHECK(saga_desk_ask(&desk, SAGA_BEGIN, UINT64_MAX, 0, 0, 0) == SAGA_NOT_IN_TABLES);
+  CHECK(same_desk(&desk, &before));
+  CHECK(saga_desk_take(&desk, SAGA_OPERATION, 4, 0, 2, 0) == SAGA_NOT_IN_TABLES);
+  saga_desk_tally(&desk, &tally);
+  CHECK(tally.refused == 1 && tally.accepted == 7);
+
+  /* torn, refused in the old way, refused tables */
+  ANSWER(open_desk(&desk, listed, 23, SAGA_READ_ON), SAGA_TORN, 6, 23, 0);
+  before = desk;
+  CHECK(saga_desk_ask(&desk, SAGA_ABORT, 0, 0, 0, 0) == SAGA_TORN);
+  CHECK(saga_desk_take(&desk, SAGA_ABORT, 0, 0, 0, 0) == SAGA_TORN);
+  CHECK(same_desk(&desk, &before));
+  STEP(desk_step(&desk, 0), SAGA_ABORT, 0, 3, 0);
+  LINES(&desk, "book refused 2 6 23\nt 0 active\nt 1 committed\nt 2 idle\nt 3 idle\nt 4 active\nop 0 0 write 4 active\nsaga 0 3 abort 0\n", 6);
+  uint8_t book[32];
+  memcpy(book, listed, listed_size);
+  memcpy(book + 24, "\x01\x02", 2);
+  ANSWER(open_desk(&desk, book, 26, SAGA_TO_FIRST_REFUSAL), SAGA_SAGA_RULE, 7, 24, 0);
+  CHECK(saga_desk_take(&desk, SAGA_BEGIN, 3, 0, 0, 0) == SAGA_SAGA_RULE);
+  ANSWER(open_desk(&desk, book, 26, SAGA_READ_ON), 0, 7, 0, 1);
+  CHECK(saga_desk_take(&desk, SAGA_BEGIN, 3, 0, 0, 0) == SAGA_ACCEPTED);
+  ANSWER(open_desk(&desk, listed, 4, SAGA_READ_ON), SAGA_TORN, 0, 4, 0);
+  STEP(desk_step(&desk, 0), SAGA_NO_SAGA, 0, 0, 0);
+  LINES(&desk, "book refused 2 0 4\n", 0);
+}
+
+/* A book of edition 2: the record of an operation stands behind its line, and one that no field can say is refused by 3. */
+static void desk_of_edition_two(void) {
+  static const uint8_t book[] = {2, 0, 1, 1, 0, 1, 0};
+  struct saga_desk desk, before;
+  ANSWER(open_desk(&desk, book, sizeof book, SAGA_READ_ON), 0, 1, 0, 0);
+  before = desk;
+  CHECK(saga_desk_ask(&desk, SAGA_OPERATION, 0, 0, 1, SAGA_MOST_2 + 1) == SAGA_BAD_NUMBER);
+  CHECK(saga_desk_take(&desk, SAGA_OPERATION, 0, 0, 1, SAGA_MOST_2 + 1) == SAGA_BAD_NUMBER);
+  CHECK(saga_desk_take(&desk, SAGA_OPERATION, 0, 0, 2, UINT64_MAX) == SAGA_BAD_NUMBER);
+  CHECK(same_desk(&desk, &before));
+  CHECK(saga_desk_take(&desk, SAGA_OPERATION, 0, 0, 1, SAGA_MOST_2) == SAGA_ACCEPTED);
+  CHECK(saga_desk_take(&desk, SAGA_OPERATION, 0, 0, 0, 0) == SAGA_ACCEPTED);
+  LINES(&desk, "book accepted 3\nt 0 active\nop 0 0 write 0 active 2097151\nop 1 0 read 0 active 0\n", 3);
+
+  /* in edition 1 no record is looked at */
+  uint8_t first[sizeof book];
+  memcpy(first, book, sizeof book);
+  first[0] = 1;
+  ANSWER(open_desk(&desk, first, sizeof first, SAGA_READ_ON), 0, 1, 0, 0);
+  CHECK(saga_desk_take(&desk, SAGA_OPERATION, 0, 0, 1, UINT64_MAX) == SAGA_ACCEPTED);
+  LINES(&desk, "book accepted 2\nt 0 active\nop 0 0 write 0 active\n", 2);
+}
+
+static uint64_t seed;
+
+static uint64_t random_number(void) {
+  seed ^= seed << 13;
+  seed ^= seed >> 7;
+  seed ^= seed << 17;
+  return seed;
+}
+
+/* Desks of any numbers: every function comes back, and writes only into what it is lent. */
+static void desks_of_any_numbers(void) {
+  uint8_t room[SAGA_LINE_BYTES + 8];
+  uint16_t list[SAGA_TRANSACTIONS + 8];
+  uint64_t rows[SAGA_TRANSACTIONS];
+  struct saga_operation operation;
+  struct saga_tally tally;
+  struct saga_answer answer;
+  seed = 88172645463325252u;
+  for (int round = 0; round < 60; round++) {
+    struct saga_desk desk;
+    uint8_t *bytes = (uint8_t *)&desk;
+    for (size_t i = 0; i < sizeof desk; i++) bytes[i] = (uint8_t)random_number();
+    if (round % 2) desk.counts[4] = 0;
+    for (uint64_t k = 0; k < 9 && round % 4 == 1; k++) desk.counts[k] %= 300;
+    if (round % 3 == 0) desk.counts[8] = 2;
+    for (int i = 0; i < 20; i++) {
+      uint64_t code = random_number() % 9, a = random_number() % 70, b = random_number() % 70, c = random_number() % 300;
+      uint64_t d = random_number() >> (i % 2 ? 0 : 43);
+      if (i % 5 == 0) a = random_number();
+      uint64_t asked = saga_desk_ask(&desk, code, a, b, c, d);
+      CHECK(saga_desk_take(&desk, code, a, b, c, d) == asked);
+      saga_desk_phase(&desk, a);
+      saga_desk_operation(&desk, c, &operation);
+      desk_step(&desk, b);
+      fill_bytes(room, sizeof room);
+      saga_desk_line(&desk, i == 0 ? 0 : random_number() % 400, room, SAGA_LINE_BYTES, &answer);
+      CHECK(bytes_untouched(room, answer.count, sizeof room));
+    }
+    saga_desk_tally(&desk, &tally);
+    saga_desk_pairs(&desk, rows);
+    fill_order(list, SAGA_TRANSACTIONS + 8);
+    saga_desk_replay(&desk, list, SAGA_TRANSACTIONS, &answer);
+    CHECK(order_untouched(list, answer.count, SAGA_TRANSACTIONS + 8));
+  }
+}
+
+/* Two sagas, of two steps and of one; three plain transactions, of which 7 begins only after 6 was begun; two objects. */
+static const uint8_t some_tables[] = {0x01, 0x02, 0x02, 0x01, 0x03, 0x02, 0x01, 0x07, 0x06, 0x04};
+
+/* An event, asked and then taken, against reading the book with it behind: in each way and each edition, on books of random events. */
+static void asked_taken_and_read(void) {
+  static const size_t fields[] = {0, 2, 2, 2, 4, 4, 3, 3};
+  seed = 1181783497276652981u;
+  for (uint64_t round = 0; round < 16; round++) {
+    uint64_t way = round % 4, edition = round % 8 < 4 ? 1 : 2;
+    uint8_t book[1024];
+    size_t n = sizeof some_tables;
+    memcpy(book, some_tables, n);
+    book[0] = (uint8_t)edition;
+    struct saga_desk desk;
+    ANSWER(open_desk(&desk, book, n, way), 0, 0, 0, 0);
+    for (int tries = 0; tries < 120; tries++) {
+      uint64_t code = random_number() % 7 + 1, a = random_number() % 10, b = random_number() % (code == 4 ? 3 : 10), c = random_number() % (code == 4 ? 3 : 12);
+      if (random_number() % 3) code = random_number() % 3 + 1;
+      uint64_t d = random_number() % 128;
+      uint64_t numbers[] = {code, a, b, c, d};
+      size_t taken = fields[code] + (code == SAGA_OPERATION && edition == 2);
+      for (size_t i = 0; i < taken; i++) book[n + i] = (uint8_t)numbers[i];
+      size_t longer = n + taken;
+
+      struct saga_desk before = desk, opened;
+      uint64_t asked = saga_desk_ask(&desk, code, a, b, c, d);
+      CHECK(same_desk(&desk, &before));
+      CHECK(saga_desk_take(&desk, code, a, b, c, d) == asked);
+
+      struct saga_answer was = read_in_way(book, n, way), now = open_desk(&opened, book, longer, way);
+      if (way % 2 == SAGA_READ_ON) {
+        /* the last of the refused events is this one, or it is accepted */
+        CHECK(now.refusal == 0 && now.events == was.events + (asked == 0) && now.count == was.count + (asked != 0));
+        uint64_t last[2] = {0, 0};
+        if (asked != 0) CHECK(saga_refused(book, longer, way, was.count, last, 2) == 1 && last[0] == was.events + was.count && last[1] == asked);
+        CHECK(same_desk(&desk, &opened));
+        n = longer;
+      } else if (asked == 0) {
+        ANSWER(now, 0, was.events + 1, 0, 0);
+        /* refused events are not in the book, and only the desk has counted them */
+        opened.counts[2] = desk.counts[2];
+        CHECK(same_desk(&desk, &opened));
+        n = longer;
+      } else {
+        ANSWER(now, asked, was.events, n, 0);
+      }
+    }
+    CHECK(n > sizeof some_tables);
+  }
+}
+
 int main(void) {
   the_listing();
   after_the_listing();
@@ -597,5 +855,10 @@ int main(void) {
   edition_two();
   mended_books();
   long_books();
+  desk_questions();
+  desk_refuses();
+  desk_of_edition_two();
+  desks_of_any_numbers();
+  asked_taken_and_read();
   return differences == 0 ? 0 : 1;
 }

@@ -7,8 +7,8 @@ mod sagalib;
 
 use sagalib::{
     add, left, listing, mend, next, opening, read, refused, replay, share, unpack, write, Answer,
-    Event, Mended, Share, Step, Totals, Way, BOOK_BYTES, LISTING_BYTES, MOST_1, MOST_2,
-    TRANSACTIONS,
+    Desk, Event, Mark, Mended, Operation, Phase, Share, Step, Tally, Totals, Way, BOOK_BYTES,
+    LINE_BYTES, LISTING_BYTES, MOST_1, MOST_2, OPERATIONS, SAGAS, TRANSACTIONS,
 };
 
 const ON: Way = Way::READ_ON;
@@ -38,10 +38,12 @@ const LISTED: [u8; 24] = [
 const LATER_LINES: &str =
     "t 0 aborted\nt 1 committed\nt 2 idle\nt 3 idle\nt 4 active\nop 0 0 write 4 active\nsaga 0 2 begin 3\n";
 
-const NOTHING: Step = Step {
+/// A saga that is settled.
+const NOTHING: Option<Step> = Some(Step {
     event: None,
     outstanding: 0,
-};
+    settled: true,
+});
 
 fn answer(refusal: u64, events: u64, place: u64, count: u64) -> Answer {
     Answer {
@@ -52,11 +54,12 @@ fn answer(refusal: u64, events: u64, place: u64, count: u64) -> Answer {
     }
 }
 
-fn step(event: Event, outstanding: u64) -> Step {
-    Step {
+fn step(event: Event, outstanding: u64) -> Option<Step> {
+    Some(Step {
         event: Some(event),
         outstanding,
-    }
+        settled: false,
+    })
 }
 
 /// The listing's book with more bytes.
@@ -139,7 +142,7 @@ fn the_listing() {
 
     assert_eq!(next(&LISTED, ON, 0), step(Event::Begin(3), 2));
     for saga in [1, 15, 16, 17, u64::MAX] {
-        assert_eq!(next(&LISTED, ON, saga), NOTHING);
+        assert_eq!(next(&LISTED, ON, saga), None);
     }
     goes_and_comes_back(&LISTED, 7);
 }
@@ -262,7 +265,7 @@ fn empty_and_torn() {
     for way in WAYS {
         has_listing(&[], way, "book refused 2 0 0\n", 0);
     }
-    assert_eq!(next(&[], ON, 0), NOTHING);
+    assert_eq!(next(&[], ON, 0), None);
     is_not_unpacked(&[], answer(2, 0, 0, 0));
     is_not_written(&[], answer(2, 0, 0, 0));
 
@@ -292,15 +295,10 @@ fn closed_step_by_step() {
     let mut book = opening(&LISTED[..23]).to_vec();
     let mut events = 6;
     for owed in [3, 2, 1] {
-        let next = next(&book, ON, 0);
+        let next = next(&book, ON, 0).unwrap();
         assert_eq!(next.outstanding, owed);
         assert_eq!(left(&book, ON), owed);
-        match next.event {
-            Some(Event::Begin(t)) => book.extend_from_slice(&[1, t as u8]),
-            Some(Event::Commit(t)) => book.extend_from_slice(&[2, t as u8]),
-            Some(Event::Abort(t)) => book.extend_from_slice(&[3, t as u8]),
-            None => panic!("no closing step"),
-        }
+        book.extend(bytes(next.event.unwrap(), 1));
         events += 1;
         assert_eq!(read(&book, ON), answer(0, events, 0, 0));
     }
@@ -527,9 +525,240 @@ fn long_books() {
     assert_eq!(read(&book, ON), answer(1, 0, 0, 0));
     assert_eq!(opening(&book), []);
     has_listing(&book, ON, "book refused 1 0 0\n", 0);
-    assert_eq!(next(&book, ON, 0), NOTHING);
+    assert_eq!(next(&book, ON, 0), None);
     is_not_unpacked(&book, answer(1, 0, 0, 0));
     is_not_written(&vec![0; 65_537], answer(1, 0, 0, 0));
+}
+
+/// The bytes of an event whose fields are all below 128, in a book of this edition.
+fn bytes(event: Event, edition: u8) -> Vec<u8> {
+    let fields = match event {
+        Event::Begin(t) => vec![1, t],
+        Event::Commit(t) => vec![2, t],
+        Event::Abort(t) => vec![3, t],
+        Event::Operation(t, object, mark, record) => {
+            let fields = vec![4, t, object, u64::from(mark == Mark::Write), record];
+            fields[..if edition == 2 { 5 } else { 4 }].to_vec()
+        }
+        Event::Delegate(t, receiver, operation) => vec![5, t, receiver, operation],
+        Event::CommitOne(t, operation) => vec![6, t, operation],
+        Event::AbortOne(t, operation) => vec![7, t, operation],
+    };
+    fields.iter().map(|v| *v as u8).collect()
+}
+
+/// The lines of a desk, one after another.
+fn lines(desk: &Desk) -> String {
+    let mut text = String::new();
+    let mut room = [BYTE; LINE_BYTES];
+    for k in 0.. {
+        let put = desk.line(k, &mut room);
+        let n = put.count as usize;
+        assert_eq!(put.refusal, 0);
+        if n == 0 {
+            break;
+        }
+        assert_eq!(desk.line(k, &mut room[..n - 1]).refusal, 19);
+        text.push_str(std::str::from_utf8(&room[..n]).unwrap());
+    }
+    text
+}
+
+fn desk_questions() {
+    for way in WAYS {
+        let (desk, read) = Desk::open(&LISTED, way);
+        assert_eq!(read, answer(0, 7, 0, 0));
+        let phases = [
+            Some(Phase::Aborted),
+            Some(Phase::Committed),
+            Some(Phase::Idle),
+            Some(Phase::Idle),
+            Some(Phase::Active),
+            None,
+        ];
+        for (t, phase) in phases.iter().enumerate() {
+            assert_eq!(desk.phase(t as u64), *phase);
+        }
+        assert_eq!(desk.phase(u64::MAX), None);
+        let write = Operation {
+            object: 0,
+            mark: Mark::Write,
+            responsible: 4,
+            phase: Phase::Active,
+        };
+        assert_eq!(desk.operation(0), Some(write));
+        assert_eq!(desk.operation(1), None);
+        assert_eq!(desk.operation(u64::MAX), None);
+        assert_eq!(desk.next(0), step(Event::Begin(3), 2));
+        assert_eq!(desk.next(1), None);
+        let tally = Tally {
+            sagas: 1,
+            transactions: 5,
+            operations: 1,
+            accepted: 7,
+            refused: 0,
+            left: 2,
+            active: 1,
+            lowest: 4,
+        };
+        assert_eq!(desk.tally(), tally);
+        assert_eq!(lines(&desk), ["book accepted 7\n", LATER_LINES].concat());
+    }
+
+    let (desk, _) = Desk::open(&REPLAYED, ON);
+    let pairs = desk.pairs();
+    assert_eq!(pairs[..2], [4, 5]);
+    assert!(pairs[2..].iter().all(|row| *row == 0));
+    let mut list = [TRANSACTION; TRANSACTIONS];
+    assert_eq!(desk.replay(&mut list), answer(0, 9, 0, 3));
+    assert_eq!(list[..3], [1, 0, 2]);
+    assert_eq!(desk.replay(&mut list[..2]), answer(19, 9, 0, 0));
+}
+
+/// A desk that was opened on a torn book takes nothing more.
+fn desk_of_a_torn_book() {
+    let (mut desk, read) = Desk::open(&LISTED[..23], ON);
+    assert_eq!(read, answer(2, 6, 23, 0));
+    let before = desk.clone();
+    assert_eq!(desk.ask(Event::Abort(0)), Err(2));
+    assert_eq!(desk.take(Event::Abort(0)), Err(2));
+    assert_eq!(desk, before);
+    assert_eq!(desk.next(0), step(Event::Abort(0), 3));
+}
+
+/// A book of edition 2: the record of an operation stands behind its line, and one that no field can say is refused by 3.
+fn desk_of_edition_two() {
+    let (mut desk, read) = Desk::open(&[2, 0, 1, 1, 0, 1, 0], ON);
+    assert_eq!(read, answer(0, 1, 0, 0));
+    let write = |record| Event::Operation(0, 0, Mark::Write, record);
+    let most = u64::from(MOST_2);
+    let before = desk.clone();
+    assert_eq!(desk.ask(write(most + 1)), Err(3));
+    assert_eq!(desk.take(write(most + 1)), Err(3));
+    assert_eq!(desk, before);
+    assert_eq!(desk.take(write(most)), Ok(()));
+    assert_eq!(
+        lines(&desk),
+        "book accepted 2\nt 0 active\nop 0 0 write 0 active 2097151\n"
+    );
+
+    // in edition 1 no record is looked at
+    let (mut desk, _) = Desk::open(&[1, 0, 1, 1, 0, 1, 0], ON);
+    assert_eq!(desk.take(write(u64::MAX)), Ok(()));
+    assert_eq!(
+        lines(&desk),
+        "book accepted 2\nt 0 active\nop 0 0 write 0 active\n"
+    );
+}
+
+struct Numbers(u64);
+
+impl Numbers {
+    fn next(&mut self) -> u64 {
+        self.0 ^= self.0 << 13;
+        self.0 ^= self.0 >> 7;
+        self.0 ^= self.0 << 17;
+        self.0
+    }
+
+    fn below(&mut self, most: u64) -> u64 {
+        self.next() % most
+    }
+
+    fn event(&mut self) -> Event {
+        let (t, u, o, q) = (
+            self.below(10),
+            self.below(10),
+            self.below(3),
+            self.below(12),
+        );
+        match self.below(10) {
+            0..=2 => Event::Begin(t),
+            3 | 4 => Event::Commit(t),
+            5 => Event::Abort(t),
+            6 => {
+                let mark = if u % 2 == 0 { Mark::Read } else { Mark::Write };
+                Event::Operation(t, o, mark, self.below(128))
+            }
+            7 => Event::Delegate(t, u, q),
+            8 => Event::CommitOne(t, q),
+            _ => Event::AbortOne(t, q),
+        }
+    }
+}
+
+/// Desks of any numbers: every function comes back.
+fn desks_of_any_numbers() {
+    let mut numbers = Numbers(88_172_645_463_325_252);
+    for _ in 0..40 {
+        let mut desk = Desk {
+            counts: [0; 9].map(|_: u64| numbers.next()),
+            sheet: [0; 195].map(|_: u32| numbers.next() as u32),
+            transactions: [0; TRANSACTIONS].map(|_: u32| numbers.next() as u32),
+            operations: [0; OPERATIONS].map(|_: u32| numbers.next() as u32),
+            records: [0; OPERATIONS].map(|_: u32| numbers.next() as u32),
+            steps: [0; SAGAS].map(|_: u8| numbers.next() as u8),
+        };
+        desk.counts[4] %= 2;
+        desk.counts[8] %= 3;
+        for _ in 0..20 {
+            let event = numbers.event();
+            let asked = desk.ask(event);
+            assert_eq!(desk.take(event), asked);
+            desk.phase(numbers.below(70));
+            desk.operation(numbers.below(300));
+            desk.next(numbers.below(20));
+            desk.line(numbers.below(400), &mut [BYTE; LINE_BYTES]);
+        }
+        desk.tally();
+        desk.pairs();
+        desk.replay(&mut [TRANSACTION; TRANSACTIONS]);
+    }
+}
+
+/// An event, asked and then taken, against reading the book with it behind: in each way and each edition, on books of random events.
+fn asked_taken_and_read() {
+    let mut numbers = Numbers(1_181_783_497_276_652_981);
+    for round in 0..16 {
+        let way = WAYS[round % 4];
+        // two sagas, of two steps and of one; three plain transactions, of which 7 begins only after 6 was begun; two objects
+        let edition = if round % 8 < 4 { 1 } else { 2 };
+        let mut book = vec![
+            edition, 0x02, 0x02, 0x01, 0x03, 0x02, 0x01, 0x07, 0x06, 0x04,
+        ];
+        let (mut desk, opened) = Desk::open(&book, way);
+        assert_eq!(opened, answer(0, 0, 0, 0));
+        for _ in 0..120 {
+            let event = numbers.event();
+            let longer = [book.clone(), bytes(event, edition)].concat();
+            let was = read(&book, way);
+            let before = desk.clone();
+            let asked = desk.ask(event);
+            assert_eq!(desk, before);
+            assert_eq!(desk.take(event), asked);
+            let (mut opened, now) = Desk::open(&longer, way);
+            match (way.to_first_refusal, asked) {
+                (false, Ok(())) => assert_eq!(now, answer(0, was.events + 1, 0, was.count)),
+                (false, Err(number)) => {
+                    assert_eq!(now, answer(0, was.events, 0, was.count + 1));
+                    let mut last = [0; 2];
+                    assert_eq!(refused(&longer, way, was.count, &mut last), 1);
+                    assert_eq!(last, [was.events + was.count, number]);
+                }
+                (true, Ok(())) => {
+                    assert_eq!(now, answer(0, was.events + 1, 0, 0));
+                    // refused events are not in the book, and only the desk has counted them
+                    opened.counts[2] = desk.counts[2];
+                }
+                (true, Err(number)) => {
+                    assert_eq!(now, answer(number, was.events, book.len() as u64, 0));
+                    continue;
+                }
+            }
+            assert_eq!(desk, opened);
+            book = longer;
+        }
+    }
 }
 
 fn all() {
@@ -548,6 +777,11 @@ fn all() {
     edition_two();
     long_books();
     many_refused();
+    desk_questions();
+    desk_of_a_torn_book();
+    desk_of_edition_two();
+    desks_of_any_numbers();
+    asked_taken_and_read();
 }
 
 /// As many refused events as a book can hold: 32,765 commits of a transaction that never began.

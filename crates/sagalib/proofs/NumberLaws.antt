@@ -1,17 +1,14 @@
 -- The numbers of each answer, from what the functions below answered.
-use Prim.Native.Nat.{ℕ, zero, suc, _/_, _%_, _<_, _≤_}
+use Prim.Native.Nat.{ℕ, zero, suc, _/_, _≤_}
 use native.Mathlib.Omega.{arith}
 use mathlib.Core.Path.{_≡_, refl, sym, ap, ap₂, _∙_}
 use mathlib.Core.Bool.{true, false}
 use mathlib.Core.List.{List, []}
-use borrow.Author.Tests.{lt-ltb, le-ltb}
-use lib.ListN.{length, take, length-take, drop-of-length-le}
+use lib.ListN.{getD, length, take, length-take, drop-of-length-le}
 use Rattle.laws.proofs.Bools.{bool-cases}
 use Rattle.terms.specs.Refusals.{verdictNumber}
 use Rattle.terms.specs.declared.Refusal.{Refusal}
 use Rattle.packing.specs.Fields.{encodes, fieldsBefore}
-use Rattle.closing.specs.Closing.{outstanding, closing}
-use Rattle.closing.specs.declared.NextStep.{NextStep}
 use Rattle.replay.specs.Replay.{orderOf, copyAnswer}
 use Rattle.replay.specs.declared.Copied.{Copied}
 use Rattle.book.specs.Packing.{unpackOutcome, writeOutcome, writtenRoom}
@@ -21,23 +18,22 @@ use Rattle.book.specs.declared.Outcome.the-variants.{Wrote, Refuses}
 use Rattle.book.proofs.PackingLaws.{wrote-all}
 use Rattle.tables.specs.Reading.{editionOf}
 use Rattle.tables.specs.declared.Circles.{Circles}
-use Rattle.tables.specs.declared.Circles.the-variants.{Forbidden, Permitted}
 use Rattle.onward.specs.Onward.{fitting, flat, judgementBy, judgementUpTo, listedIn, refusedBy}
 use Rattle.onward.specs.declared.Judgement.{Judgement}
 use Rattle.onward.specs.declared.No.{No}
-use Rattle.listing.specs.Lines.{listingBy, listingOf}
+use Rattle.listing.specs.Lines.{listingBy, listingOf, placeAnswer}
 use Rattle.listing.specs.Texts.{putAnswer}
+use Rattle.listing.specs.declared.Placed.{Placed}
 use Rattle.listing.specs.declared.Put.{Put}
 use Rattle.listing.proofs.WholeLaws.{all-listed, listed}
-use Rattle.sagalib.specs.Numbers.{reading, readsOn, circlesIn, judged, refusedIn, four, readNumbers, outcomeNumbers, unpackNumbers, writeNumbers, listingIn, listingOutcome, listingNumbers, orderOutcome, replayNumbers, stepNumbers, nextNumbers}
+use Rattle.desk.specs.Ways.{circlesIn, judged, readsOn}
+use Rattle.desk.specs.Desk.{Desk, DeskStands, countsBy, countsOf}
+use Rattle.desk.specs.Questions.{sagaNumbers}
+use Rattle.desk.proofs.WayLaws.{judged-on, judged-to}
+use Rattle.left.specs.Left.{leftIn}
+use Rattle.sagalib.specs.Numbers.{reading, refusedIn, four, readNumbers, outcomeNumbers, unpackNumbers, writeNumbers, lineOutcome, listingIn, listingOutcome, listingNumbers, orderOutcome, replayNumbers, nextNumbers, deskOrder, deskLine}
 
 -- ---- one of the ways of reading, and what rests on it
-
-pub circles-forbidden : (way : ℕ) → way % 4 < 2 → Forbidden ≡ circlesIn way
-circles-forbidden way h = rw (lt-ltb (way % 4) 2 h)
-
-pub circles-permitted : (way : ℕ) → 2 ≤ way % 4 → Permitted ≡ circlesIn way
-circles-permitted way h = rw (le-ltb (way % 4) 2 h)
 
 take-none : (n : ℕ) → _≡_ {A = List No} (take n []) []
 take-none zero = refl
@@ -62,27 +58,19 @@ none-refused way s to skip list =
 module _ (way : ℕ) (s : List ℕ) (circles : Circles) (c : circles ≡ circlesIn way) where
   -- on past refused events
   module _ (on : readsOn way ≡ true) where
-    pub judged-on : judgementBy circles (editionOf s) s ≡ judged way s
-    unfolding judged
-    judged-on = rw (on, c)
-
     pub refused-on : refusedBy circles (editionOf s) s ≡ refusedIn way s
     unfolding refusedIn
     refused-on = rw (on, c)
 
     listing-on : listingBy circles (editionOf s) s ≡ listingIn way s
     unfolding listingIn
-    listing-on = ap₂ listingOf judged-on refused-on
+    listing-on = ap₂ listingOf (judged-on way s circles c on) refused-on
 
   -- to the first refusal
   module _ (to : readsOn way ≡ false) where
-    pub judged-to : judgementUpTo circles s ≡ judged way s
-    unfolding judged
-    judged-to = rw (to, c)
-
     listing-to : listingOf (judgementUpTo circles s) [] ≡ listingIn way s
     unfolding listingIn
-    listing-to = ap₂ listingOf judged-to (sym (refused-to way s to))
+    listing-to = ap₂ listingOf (judged-to way s circles c to) (sym (refused-to way s to))
 
   -- the listing lists as many refused events as the judgement counts
   pub listing-told : listingOf (judged way s) (listed (judged way s) circles s) ≡ listingIn way s
@@ -90,9 +78,9 @@ module _ (way : ℕ) (s : List ℕ) (circles : Circles) (c : circles ≡ circles
   listing-told =
       bool-cases (readsOn way)
       (λ on.
-      ap (λ (r : Judgement). listingOf r (listed r circles s)) (sym (judged-on on))
+      ap (λ (r : Judgement). listingOf r (listed r circles s)) (sym (judged-on way s circles c on))
       ∙ ap (listingOf (judgementBy circles (editionOf s) s)) (all-listed circles (editionOf s) s) ∙ listing-on on)
-      (λ to. ap (λ (r : Judgement). listingOf r (listed r circles s)) (sym (judged-to to)) ∙ listing-to to)
+      (λ to. ap (λ (r : Judgement). listingOf r (listed r circles s)) (sym (judged-to way s circles c to)) ∙ listing-to to)
 
 module _ (way : ℕ) (s : List ℕ) (r : Judgement) (read : r ≡ judged way s) where
   pub read-is : (number : ℕ) → number ≡ verdictNumber (r .answer) → four number (r .events) (r .place) (r .refused) ≡ readNumbers way s
@@ -109,10 +97,34 @@ module _ (way : ℕ) (s : List ℕ) (r : Judgement) (read : r ≡ judged way s) 
   unfolding replayNumbers
   replay-is room copied p o q l e = rw (e, q, p, read)
 
-  pub next-is : (saga owed : ℕ) → owed ≡ outstanding (r .tables) (r .state) saga → (step : NextStep) → step ≡ closing (r .tables) (r .state) saga
-      → (l : List ℕ) → l ≡ stepNumbers owed step → l ≡ nextNumbers way s saga
-  unfolding nextNumbers
-  next-is saga owed o step q l e = rw (e, o, q, read)
+  pub next-is : (saga : ℕ) (l : List ℕ) → l ≡ sagaNumbers (r .tables) (r .state) saga → l ≡ nextNumbers way s saga
+  next-is saga l e = e ∙ ap (λ (x : Judgement). sagaNumbers (x .tables) (x .state) saga) read
+
+-- ---- from a desk
+
+module _ (j : Judgement) (d : Desk) (st : DeskStands j d) where
+  counts-are : d .counts ≡ countsBy j (leftIn (j .tables) (j .state))
+  unfolding countsOf
+  counts-are = st .counts
+
+  events-are : getD (d .counts) 1 0 ≡ j .events
+  events-are = ap (λ (l : List ℕ). getD l 1 0) counts-are
+
+  -- the answer of an opening stands in its counts
+  pub opened-is : (way : ℕ) (s : List ℕ) → j ≡ judged way s
+      → four (getD (d .counts) 4 0) (getD (d .counts) 1 0) (getD (d .counts) 5 0) (getD (d .counts) 2 0) ≡ readNumbers way s
+  unfolding readNumbers
+  opened-is way s e = rw (counts-are, e)
+
+  pub order-is : (room : List ℕ) (copied : Copied) → copied ≡ copyAnswer (orderOf (j .state .ops)) room → (o : Outcome) → o ≡ orderOutcome (getD (d .counts) 1 0) copied
+      → (l : List ℕ) → l ≡ outcomeNumbers (getD (d .counts) 1 0) o → l ≡ deskOrder j room
+  unfolding deskOrder
+  order-is room copied p o q l e = rw (e, q, p, events-are)
+
+  pub line-is : (k : ℕ) (room : List ℕ) (placed : Placed) → placed ≡ placeAnswer j k room → (o : Outcome) → o ≡ lineOutcome (getD (d .counts) 1 0) placed
+      → (l : List ℕ) → l ≡ outcomeNumbers (getD (d .counts) 1 0) o → l ≡ deskLine j k room
+  unfolding deskLine
+  line-is k room placed p o q l e = rw (e, q, p, events-are)
 
 -- ---- unpacking
 

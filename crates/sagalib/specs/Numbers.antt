@@ -1,54 +1,40 @@
 -- The numbers in which an answer crosses to a program in C or Rust (docs/RULES.md, 5 Reading, opening, writing, unpacking): "It returns number, events accepted and
 -- place", and "After success the answer is the number of bytes or fields written".
-use Prim.Native.Nat.{ℕ, _%_}
-use mathlib.Core.Bool.{Bool, cond}
+use Prim.Native.Nat.{ℕ}
+use mathlib.Core.Bool.{cond}
 use mathlib.Core.List.{List, [], _∷_}
-use lib.Dec.{eqb, ltb}
 use lib.ListN.{getD}
 use Rattle.terms.specs.Refusals.{numberOf, verdictNumber}
 use Rattle.terms.specs.declared.Refusal.the-variants.{NoRoom}
 use Rattle.packing.specs.Fields.{encodes}
-use Rattle.closing.specs.Closing.{outstanding, closing}
-use Rattle.closing.specs.declared.NextStep.{NextStep}
-use Rattle.closing.specs.declared.NextStep.the-variants.{NoStep, ToBegin, ToCommit, ToAbort}
 use Rattle.replay.specs.Replay.{orderOf, copyAnswer}
 use Rattle.replay.specs.declared.Copied.{Copied}
 use Rattle.replay.specs.declared.Copied.the-variants.{Wrote as WroteOrder, NoRoom as NoRoomForOrder}
 use Rattle.tables.specs.Reading.{editionOf}
-use Rattle.tables.specs.declared.Circles.{Circles}
-use Rattle.tables.specs.declared.Circles.the-variants.{Forbidden, Permitted}
 use Rattle.book.specs.Reading.{readingOf}
 use Rattle.book.specs.Packing.{unpackOutcome, writeOutcome}
 use Rattle.book.specs.declared.Reading.{Reading}
 use Rattle.book.specs.declared.Outcome.{Outcome}
 use Rattle.book.specs.declared.Outcome.the-variants.{Wrote, Refuses}
-use Rattle.onward.specs.Onward.{judgementBy, judgementUpTo, refusedBy}
+use Rattle.onward.specs.Onward.{refusedBy}
 use Rattle.onward.specs.declared.Judgement.{Judgement}
 use Rattle.onward.specs.declared.No.{No}
 use Rattle.share.specs.declared.Share.{Share}
 use Rattle.totals.specs.declared.Totals.{Totals}
-use Rattle.listing.specs.Lines.{listingOf}
+use Rattle.listing.specs.Lines.{listingOf, placeAnswer}
 use Rattle.listing.specs.Texts.{putAnswer}
+use Rattle.listing.specs.declared.Placed.{Placed}
+use Rattle.listing.specs.declared.Placed.the-variants.{Wrote as WroteLine, NoRoom as NoRoomForLine, NoLine}
 use Rattle.listing.specs.declared.Put.{Put}
 use Rattle.listing.specs.declared.Put.the-variants.{Wrote as WroteListing, NoRoom as NoRoomForListing}
 use Rattle.mend.specs.declared.Mending.{Mending}
 use Rattle.mend.specs.declared.Mending.the-variants.{Own, Wrote as WroteMended, Refuses as RefusesMending}
+use Rattle.desk.specs.Ways.{circlesIn, judged, readsOn}
+use Rattle.desk.specs.Questions.{sagaNumbers}
 
 -- reading in the old way, to the first refusal, as unpacking, writing and the accepted opening go by it
 abbrev pub reading : List ℕ → Reading
 reading s = readingOf s
-
--- ---- the ways of reading, by number: on past refused events (0), to the first refusal (1), and each of these with circles in the tables permitted (2, 3); of a larger
--- number what is left of it by fours
-
-abbrev pub readsOn : ℕ → Bool
-readsOn way = eqb (way % 2) 0
-
-abbrev pub circlesIn : ℕ → Circles
-circlesIn way = cond (ltb (way % 4) 2) Forbidden Permitted
-
-unfoldable pub judged : ℕ → List ℕ → Judgement
-judged way s = cond (readsOn way) (judgementBy (circlesIn way) (editionOf s) s) (judgementUpTo (circlesIn way) s)
 
 -- the events that are refused and passed over; a reading to the first refusal passes over none
 unfoldable pub refusedIn : ℕ → List ℕ → List No
@@ -110,18 +96,24 @@ mendedNumbers (Own kept) = 1 ∷ 0 ∷ 0 ∷ []
 mendedNumbers (WroteMended n kept dropped added) = 2 ∷ dropped ∷ added ∷ []
 mendedNumbers (RefusesMending r kept place) = 0 ∷ 0 ∷ 0 ∷ []
 
--- ---- the three numbers of a closing step: its event as a book has it ("1 begin t; 2 commit t; 3 abort t"), 0 if there is none; its
--- transaction; and the number outstanding
+-- what is to be done next for a saga
+abbrev pub nextNumbers : ℕ → List ℕ → ℕ → List ℕ
+nextNumbers way s saga = sagaNumbers (judged way s .tables) (judged way s .state) saga
 
-abbrev pub stepNumbers : ℕ → NextStep → List ℕ
-stepNumbers owed NoStep = 0 ∷ 0 ∷ owed ∷ []
-stepNumbers owed (ToBegin t) = 1 ∷ t ∷ owed ∷ []
-stepNumbers owed (ToCommit t) = 2 ∷ t ∷ owed ∷ []
-stepNumbers owed (ToAbort t) = 3 ∷ t ∷ owed ∷ []
+-- ---- from a desk that stands for what reading came to
 
-unfoldable pub nextNumbers : ℕ → List ℕ → ℕ → List ℕ
-nextNumbers way s saga =
-    stepNumbers (outstanding (judged way s .tables) (judged way s .state) saga) (closing (judged way s .tables) (judged way s .state) saga)
+-- the order to replay in
+unfoldable pub deskOrder : Judgement → List ℕ → List ℕ
+deskOrder j room = outcomeNumbers (j .events) (orderOutcome (j .events) (copyAnswer (orderOf (j .state .ops)) room))
+
+-- a line of the listing; one that is not there has no bytes
+abbrev pub lineOutcome : ℕ → Placed → Outcome
+lineOutcome events (WroteLine n) = Wrote n
+lineOutcome events NoRoomForLine = Refuses NoRoom events 0
+lineOutcome events NoLine = Wrote 0
+
+unfoldable pub deskLine : Judgement → ℕ → List ℕ → List ℕ
+deskLine j k room = outcomeNumbers (j .events) (lineOutcome (j .events) (placeAnswer j k room))
 
 -- ---- the six numbers of a term's totals, and the two of a share
 

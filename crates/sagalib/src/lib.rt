@@ -5,27 +5,40 @@
 // written, or events passed over. A refusal leaves a lent room as it was.
 //
 // The way of reading is a number: on past refused events (0), to the first refusal (1), and each of these with circles in the tables permitted (2, 3).
+//
+// The functions whose names begin with saga_lent go by a desk: several arrays of numbers that the caller lends, and that stand for a book and the events taken behind it. Numbers of
+// any value are safe there; what is promised is promised of a desk that saga_lent_open left and that only saga_lent_take has changed.
 use book::Outcome;
-use closing::NextStep;
+use desk::Desk;
+use listing::Placed;
 use listing::Put;
 use mend::Mending;
-use onward::Judgement;
 use replay::Copied;
-use tables::Circles;
+use sheet::Sheet;
+use terms::Book;
 use terms::Refusal;
+use ties::Operation;
 use totals::Totals;
 ghost use mathlib.Core.Path.{_≡_};
+ghost use mathlib.Core.List.{List};
+ghost use Prim.Native.Nat.{ℕ};
 ghost use lib.ListN.{length};
 ghost use Rattle.tables.specs.Reading.{editionOf};
 ghost use Rattle.left.specs.Left.{leftIn};
-ghost use Rattle.replay.specs.Replay.{copyRoom};
+ghost use Rattle.report.specs.Report.{reportOf};
+ghost use Rattle.replay.specs.Replay.{copyRoom, orderOf};
 ghost use Rattle.book.specs.Reading.{openingOf};
 ghost use Rattle.book.specs.Packing.{unpackedRoom, writtenRoom};
 ghost use Rattle.onward.specs.Onward.{fitting, listedIn};
+ghost use Rattle.onward.specs.declared.Judgement.{Judgement};
+ghost use Rattle.listing.specs.Lines.{placeRoom};
 ghost use Rattle.listing.specs.Texts.{putRoom};
 ghost use Rattle.mend.specs.Mend.{mendedRoom, mendingOf};
 ghost use Rattle.totals.specs.Figures.{addAnswer, addedTo, answerNumber, shareOf};
-ghost use Rattle.sagalib.specs.Numbers.{readsOn, circlesIn, judged, refusedIn, readNumbers, outcomeNumbers, unpackNumbers, writeNumbers, listingIn, listingOutcome, listingNumbers, orderOutcome, orderIn, replayNumbers, stepNumbers, nextNumbers, mendNumbers, mendedNumbers, totalsIn, totalsNumbers, shareNumbers};
+ghost use Rattle.desk.specs.Ways.{judged};
+ghost use Rattle.desk.specs.Desk.{DeskStands, askedBy, deskOf, namedBy, takenBy};
+ghost use Rattle.desk.specs.Questions.{operationNumbers, phaseNumber, sagaNumbers, tallyOf};
+ghost use Rattle.sagalib.specs.Numbers.{deskLine, deskOrder, refusedIn, readNumbers, outcomeNumbers, unpackNumbers, writeNumbers, lineOutcome, listingIn, listingOutcome, listingNumbers, orderOutcome, orderIn, replayNumbers, nextNumbers, mendNumbers, mendedNumbers, totalsIn, totalsNumbers, shareNumbers};
 
 // The answer after writing for a book of so many accepted events; a refusal says by itself how many it came after.
 fn outcome_numbers(events: usize, outcome: Outcome) -> [u64; 4]
@@ -60,15 +73,14 @@ fn order_outcome(events: usize, copied: Copied) -> Outcome
     }
 }
 
-// A closing step: its event as a book has it, 0 if there is none; its transaction; and the number outstanding.
-fn step_numbers(owed: usize, step: NextStep) -> [u64; 3]
-    ensures { λ r. ⌜ r ≡ stepNumbers owed step ⌝ }
+// What came of putting a line of the listing into a room; a line that is not there has no bytes.
+fn line_outcome(events: usize, placed: Placed) -> Outcome
+    ensures { λ r. ⌜ r ≡ lineOutcome events placed ⌝ }
 {
-    match step {
-        NextStep::NoStep => [0, 0, owed as u64],
-        NextStep::ToBegin(t) => [1, t as u64, owed as u64],
-        NextStep::ToCommit(t) => [2, t as u64, owed as u64],
-        NextStep::ToAbort(t) => [3, t as u64, owed as u64],
+    match placed {
+        Placed::Wrote(n) => Outcome::Wrote(n),
+        Placed::NoRoom => Outcome::Refuses(Refusal::NoRoom, events, 0),
+        Placed::NoLine => Outcome::Wrote(0),
     }
 }
 
@@ -97,43 +109,12 @@ fn mended_numbers(mending: Mending) -> [u64; 3]
     }
 }
 
-// Whether a way of reading goes on past refused events (0, 2), and not to the first refusal alone (1, 3).
-fn reads_on(way: u64) -> bool
-    ensures { λ r. ⌜ r ≡ readsOn way ⌝ }
-{
-    way % 2 == 0
-}
-
-// Whether circles in the tables are permitted in a way of reading (2, 3) or not (0, 1).
-fn circles_in(way: u64) -> Circles
-    ensures { λ r. ⌜ r ≡ circlesIn way ⌝ }
-{
-    if way % 4 < 2 {
-        return Circles::Forbidden;
-    }
-    Circles::Permitted
-}
-
-// Reads a book in one of the ways.
-fn judged(book: &[u8], way: u64) -> Judgement
-    ensures { λ r. ⌜ r ≡ judged way (now (book .entry)) ⌝ }
-{
-    let circles = circles_in(way);
-    if reads_on(way) {
-        return onward::read_by(book, circles);
-    }
-    match circles {
-        Circles::Forbidden => onward::read_to_first_refusal(book),
-        Circles::Permitted => onward::read_to_first_refusal_permitting_circles(book),
-    }
-}
-
 // Reads a book: the answer, with how many events were refused and passed over.
 #[no_mangle]
 pub extern "C" fn saga_read(book: &[u8], way: u64, answer: &mut [u64; 4])
     ensures { λ _. ⌜ now (answer .exit) ≡ readNumbers way (now (book .entry)) ⌝ }
 {
-    let read = judged(book, way);
+    let read = desk::judged(book, way);
     let verdict = read.answer;
     let number = verdict.number() as u64;
     let events = read.events as u64;
@@ -148,8 +129,8 @@ pub extern "C" fn saga_read(book: &[u8], way: u64, answer: &mut [u64; 4])
 pub extern "C" fn saga_refused(book: &[u8], way: u64, skip: u64, list: &mut [u64]) -> u64
     ensures { λ r. ⌜ (r ≡ length (fitting skip (length (now (list .entry))) (refusedIn way (now (book .entry))))) × (now (list .exit) ≡ listedIn (now (list .entry)) (fitting skip (length (now (list .entry))) (refusedIn way (now (book .entry))))) ⌝ }
 {
-    if reads_on(way) {
-        let circles = circles_in(way);
+    if desk::reads_on(way) {
+        let circles = desk::circles_in(way);
         return onward::fill_refused(book, circles, skip as usize, list) as u64;
     }
     0
@@ -169,8 +150,8 @@ pub extern "C" fn saga_opening(book: &[u8]) -> u64
 pub extern "C" fn saga_listing(book: &[u8], way: u64, room: &mut [u8], answer: &mut [u64; 4])
     ensures { λ _. ⌜ (now (answer .exit) ≡ listingNumbers way (now (book .entry)) (now (room .entry))) × (now (room .exit) ≡ putRoom (listingIn way (now (book .entry))) (now (room .entry))) ⌝ }
 {
-    let circles = circles_in(way);
-    let read = judged(book, way);
+    let circles = desk::circles_in(way);
+    let read = desk::judged(book, way);
     let events = read.events;
     let put = listing::put_whole(read, book, circles, room);
     let outcome = listing_outcome(events, put);
@@ -178,18 +159,15 @@ pub extern "C" fn saga_listing(book: &[u8], way: u64, room: &mut [u8], answer: &
     *answer = numbers;
 }
 
-// What is to be done next for the saga of an index, after the accepted events of a book.
+// What is to be done next for the saga of an index, after the accepted events of a book; and whether it is settled.
 #[no_mangle]
-pub extern "C" fn saga_next(book: &[u8], way: u64, saga: u64, step: &mut [u64; 3])
+pub extern "C" fn saga_next(book: &[u8], way: u64, saga: u64, step: &mut [u64; 4])
     ensures { λ _. ⌜ now (step .exit) ≡ nextNumbers way (now (book .entry)) saga ⌝ }
 {
-    let read = judged(book, way);
+    let read = desk::judged(book, way);
     let tables = read.tables;
     let state = read.state;
-    let i = saga as usize;
-    let owed = closing::outstanding(tables, state, i);
-    let next = closing::closing(tables, state, i);
-    let numbers = step_numbers(owed, next);
+    let numbers = desk::saga_of(tables, state, saga);
     *step = numbers;
 }
 
@@ -198,7 +176,7 @@ pub extern "C" fn saga_next(book: &[u8], way: u64, saga: u64, step: &mut [u64; 3
 pub extern "C" fn saga_left(book: &[u8], way: u64) -> u64
     ensures { λ r. ⌜ r ≡ leftIn (judged way (now (book .entry)) .tables) (judged way (now (book .entry)) .state) ⌝ }
 {
-    let read = judged(book, way);
+    let read = desk::judged(book, way);
     let tables = read.tables;
     let state = read.state;
     left::left_of(tables, state) as u64
@@ -210,7 +188,7 @@ pub extern "C" fn saga_left(book: &[u8], way: u64) -> u64
 pub extern "C" fn saga_replay(book: &[u8], way: u64, list: &mut [u16], answer: &mut [u64; 4])
     ensures { λ _. ⌜ (now (answer .exit) ≡ replayNumbers way (now (book .entry)) (now (list .entry))) × (now (list .exit) ≡ copyRoom (orderIn way (now (book .entry))) (now (list .entry))) ⌝ }
 {
-    let read = judged(book, way);
+    let read = desk::judged(book, way);
     let events = read.events;
     let state = read.state;
     let ops = state.ops;
@@ -310,4 +288,173 @@ pub extern "C" fn saga_share(term: &[u64; 6], share: &mut [u64; 2])
     let counted = totals_in(term);
     let lowest = counted.share();
     *share = [lowest.part, lowest.whole];
+}
+
+// ---- a desk: the sheet, the transactions, the operations and the record of each, the steps of every saga and the counts
+
+// Opens a desk on a book that is read in one of the ways: the answer of saga_read, and the desk as that reading ends.
+#[no_mangle]
+pub extern "C" fn saga_lent_open(
+    book: &[u8],
+    way: u64,
+    sheet: &mut [u32; Sheet::NUMBERS],
+    transactions: &mut [u32; Book::TRANSACTIONS],
+    ops: &mut [u32; Operation::MOST],
+    records: &mut [u32; Operation::MOST],
+    steps: &mut [u8; Book::SAGAS],
+    counts: &mut [u64; Desk::COUNTS],
+    answer: &mut [u64; 4],
+)
+    ensures { λ _. ⌜ (now (answer .exit) ≡ readNumbers way (now (book .entry))) × DeskStands (judged way (now (book .entry))) (deskOf (now (sheet .exit)) (now (transactions .exit)) (now (ops .exit)) (now (records .exit)) (now (steps .exit)) (now (counts .exit))) ⌝ }
+{
+    desk::open_on(book, way, sheet, transactions, ops, records, steps, counts);
+    let ended = counts[Desk::ENDED];
+    let accepted = counts[Desk::ACCEPTED];
+    let place = counts[Desk::PLACE];
+    let passed = counts[Desk::REFUSED];
+    *answer = [ended, accepted, place, passed];
+}
+
+// Whether an event would be accepted behind all others: 0, or the number of its refusal.
+#[no_mangle]
+pub extern "C" fn saga_lent_ask(
+    sheet: &[u32; Sheet::NUMBERS],
+    transactions: &[u32; Book::TRANSACTIONS],
+    ops: &[u32; Operation::MOST],
+    counts: &[u64; Desk::COUNTS],
+    code: u64,
+    a: u64,
+    b: u64,
+    c: u64,
+    d: u64,
+) -> u64
+    ensures { λ r. ⌜ ((j : Judgement) (records steps : List ℕ) → DeskStands j (deskOf (now (sheet .entry)) (now (transactions .entry)) (now (ops .entry)) records steps (now (counts .entry))) → r ≡ askedBy j (namedBy (j .edition) code a b c d)) ⌝ }
+{
+    desk::ask(sheet, transactions, ops, counts, code, a, b, c, d)
+}
+
+// Takes an event behind all others: 0 if it is accepted, and then the desk is moved on; else the number of its refusal.
+#[no_mangle]
+pub extern "C" fn saga_lent_take(
+    sheet: &[u32; Sheet::NUMBERS],
+    transactions: &mut [u32; Book::TRANSACTIONS],
+    ops: &mut [u32; Operation::MOST],
+    records: &mut [u32; Operation::MOST],
+    counts: &mut [u64; Desk::COUNTS],
+    code: u64,
+    a: u64,
+    b: u64,
+    c: u64,
+    d: u64,
+) -> u64
+    ensures { λ r. ⌜ ((j : Judgement) (steps : List ℕ) → DeskStands j (deskOf (now (sheet .entry)) (now (transactions .entry)) (now (ops .entry)) (now (records .entry)) steps (now (counts .entry))) → (r ≡ askedBy j (namedBy (j .edition) code a b c d)) × DeskStands (takenBy j (namedBy (j .edition) code a b c d)) (deskOf (now (sheet .entry)) (now (transactions .exit)) (now (ops .exit)) (now (records .exit)) steps (now (counts .exit)))) ⌝ }
+{
+    desk::take(sheet, transactions, ops, records, counts, code, a, b, c, d)
+}
+
+// How a transaction stands.
+#[no_mangle]
+pub extern "C" fn saga_lent_phase(
+    sheet: &[u32; Sheet::NUMBERS],
+    transactions: &[u32; Book::TRANSACTIONS],
+    t: u64,
+) -> u64
+    ensures { λ r. ⌜ ((j : Judgement) (ops records steps counts : List ℕ) → DeskStands j (deskOf (now (sheet .entry)) (now (transactions .entry)) ops records steps counts) → r ≡ phaseNumber (j .tables) (j .state) t) ⌝ }
+{
+    desk::phase(sheet, transactions, t)
+}
+
+// Operation q: its object, its mark, its responsible transaction and how it stands.
+#[no_mangle]
+pub extern "C" fn saga_lent_operation(
+    ops: &[u32; Operation::MOST],
+    counts: &[u64; Desk::COUNTS],
+    q: u64,
+    answer: &mut [u64; 4],
+)
+    ensures { λ _. ⌜ ((j : Judgement) (sheet transactions records steps : List ℕ) → DeskStands j (deskOf sheet transactions (now (ops .entry)) records steps (now (counts .entry))) → now (answer .exit) ≡ operationNumbers (j .state .ops) q) ⌝ }
+{
+    let numbers = desk::operation(ops, counts, q);
+    *answer = numbers;
+}
+
+// What is to be done next for the saga of an index, what it owes and whether it is settled.
+#[no_mangle]
+pub extern "C" fn saga_lent_next(
+    transactions: &[u32; Book::TRANSACTIONS],
+    ops: &[u32; Operation::MOST],
+    steps: &[u8; Book::SAGAS],
+    counts: &[u64; Desk::COUNTS],
+    saga: u64,
+    step: &mut [u64; 4],
+)
+    ensures { λ _. ⌜ ((j : Judgement) (sheet records : List ℕ) → DeskStands j (deskOf sheet (now (transactions .entry)) (now (ops .entry)) records (now (steps .entry)) (now (counts .entry))) → now (step .exit) ≡ sagaNumbers (j .tables) (j .state) saga) ⌝ }
+{
+    let numbers = desk::saga(transactions, ops, steps, counts, saga);
+    *step = numbers;
+}
+
+// How many there are of each, how much is left, and who is active.
+#[no_mangle]
+pub extern "C" fn saga_lent_tally(
+    transactions: &[u32; Book::TRANSACTIONS],
+    steps: &[u8; Book::SAGAS],
+    counts: &[u64; Desk::COUNTS],
+    tally: &mut [u64; 8],
+)
+    ensures { λ _. ⌜ ((j : Judgement) (sheet ops records : List ℕ) → DeskStands j (deskOf sheet (now (transactions .entry)) ops records (now (steps .entry)) (now (counts .entry))) → now (tally .exit) ≡ tallyOf j) ⌝ }
+{
+    let numbers = desk::tally(transactions, steps, counts);
+    *tally = numbers;
+}
+
+// Who stands before whom.
+#[no_mangle]
+pub extern "C" fn saga_lent_pairs(
+    transactions: &[u32; Book::TRANSACTIONS],
+    ops: &[u32; Operation::MOST],
+    counts: &[u64; Desk::COUNTS],
+    rows: &mut [u64; Book::TRANSACTIONS],
+)
+    ensures { λ _. ⌜ ((j : Judgement) (sheet records steps : List ℕ) → DeskStands j (deskOf sheet (now (transactions .entry)) (now (ops .entry)) records steps (now (counts .entry))) → now (rows .exit) ≡ reportOf (j .state) .before) ⌝ }
+{
+    desk::pairs(transactions, ops, counts, rows)
+}
+
+// Puts the order to replay in at the front of a lent list.
+#[no_mangle]
+pub extern "C" fn saga_lent_replay(
+    ops: &[u32; Operation::MOST],
+    counts: &[u64; Desk::COUNTS],
+    list: &mut [u16],
+    answer: &mut [u64; 4],
+)
+    ensures { λ _. ⌜ ((j : Judgement) (sheet transactions records steps : List ℕ) → DeskStands j (deskOf sheet transactions (now (ops .entry)) records steps (now (counts .entry))) → (now (answer .exit) ≡ deskOrder j (now (list .entry))) × (now (list .exit) ≡ copyRoom (orderOf (j .state .ops)) (now (list .entry)))) ⌝ }
+{
+    let events = counts[Desk::ACCEPTED] as usize;
+    let copied = desk::replay(ops, counts, list);
+    let outcome = order_outcome(events, copied);
+    let numbers = outcome_numbers(events, outcome);
+    *answer = numbers;
+}
+
+// Puts line k of the listing at the front of a lent room.
+#[no_mangle]
+pub extern "C" fn saga_lent_line(
+    transactions: &[u32; Book::TRANSACTIONS],
+    ops: &[u32; Operation::MOST],
+    records: &[u32; Operation::MOST],
+    steps: &[u8; Book::SAGAS],
+    counts: &[u64; Desk::COUNTS],
+    k: u64,
+    room: &mut [u8],
+    answer: &mut [u64; 4],
+)
+    ensures { λ _. ⌜ ((j : Judgement) (sheet : List ℕ) → DeskStands j (deskOf sheet (now (transactions .entry)) (now (ops .entry)) (now (records .entry)) (now (steps .entry)) (now (counts .entry))) → (now (answer .exit) ≡ deskLine j k (now (room .entry))) × (now (room .exit) ≡ placeRoom j k (now (room .entry)))) ⌝ }
+{
+    let events = counts[Desk::ACCEPTED] as usize;
+    let placed = desk::line(transactions, ops, records, steps, counts, k, room);
+    let outcome = line_outcome(events, placed);
+    let numbers = outcome_numbers(events, outcome);
+    *answer = numbers;
 }

@@ -1,7 +1,7 @@
 use native.Mathlib.Omega.{arith}
-use Rattle.sagalib.proofs.NumberLaws.{circles-forbidden, circles-permitted}
-use Rattle.sagalib.proofs.circles_in.Statement.{statement}
-use Rattle.sagalib.proofs.circles_in.Tie as tie
+use Rattle.desk.proofs.WayLaws.{circles-forbidden, circles-permitted}
+use Rattle.desk.proofs.circles_in.Statement.{statement}
+use Rattle.desk.proofs.circles_in.Tie as tie
 
 returns : tie.Need-returns
 returns c = circles-forbidden (c .before .args .way) (omega arith)

@@ -2,10 +2,10 @@ use mathlib.Core.Path.{sym, ap, _∙_}
 use denote.Ref.{now}
 use Rattle.tables.specs.declared.Circles.{Circles}
 use Rattle.onward.specs.Onward.{judgementUpTo}
-use Rattle.sagalib.proofs.NumberLaws.{judged-on, judged-to}
+use Rattle.desk.proofs.WayLaws.{judged-on, judged-to}
 use borrow.Author.Needs.{needs}
-use Rattle.sagalib.proofs.judged.Statement.{statement}
-use Rattle.sagalib.proofs.judged.Tie as tie
+use Rattle.desk.proofs.judged.Statement.{statement}
+use Rattle.desk.proofs.judged.Tie as tie
 
 circles-in-requires : tie.Need-circles-in-requires
 circles-in-requires c κs = search needs
@@ -20,7 +20,8 @@ returns : tie.Need-returns
 returns c =
     let a = c .before .before .before .before .before .args in
     let circles = c .before .before .before .circles-in in
-    c .read-by .ensures ∙ judged-on (a .way) (now (a .book)) (circles .result) (circles .ensures) (sym (c .before .before .reads-on .ensures) ∙ c .before .if1 .taken)
+    c .read-by .ensures ∙ judged-on (a .way) (now (a .book)) (circles .result) (circles .ensures)
+    (sym (c .before .before .reads-on .ensures) ∙ c .before .if1 .taken)
 
 enum-told : tie.Need-enum-told
 enum-told c = search needs
@@ -41,7 +42,8 @@ returns-2 c =
     let circles = c .before .before .before .before .before .circles-in in
     c .read-to-first-refusal .ensures
     ∙ ap (λ (x : Circles). judgementUpTo x (now (a .book))) (sym (c .before .enum-told .given .1))
-    ∙ judged-to (a .way) (now (a .book)) (circles .result) (circles .ensures) (sym (c .before .before .before .before .reads-on .ensures) ∙ c .before .before .before .if1 .left)
+    ∙ judged-to (a .way) (now (a .book)) (circles .result) (circles .ensures)
+    (sym (c .before .before .before .before .reads-on .ensures) ∙ c .before .before .before .if1 .left)
 
 returns-3 : tie.Need-returns-3
 returns-3 c =
@@ -49,7 +51,8 @@ returns-3 c =
     let circles = c .before .before .before .before .before .circles-in in
     c .read-to-first-refusal-permitting-circles .ensures
     ∙ ap (λ (x : Circles). judgementUpTo x (now (a .book))) (sym (c .before .enum-told2 .given .1))
-    ∙ judged-to (a .way) (now (a .book)) (circles .result) (circles .ensures) (sym (c .before .before .before .before .reads-on .ensures) ∙ c .before .before .before .if1 .left)
+    ∙ judged-to (a .way) (now (a .book)) (circles .result) (circles .ensures)
+    (sym (c .before .before .before .before .reads-on .ensures) ∙ c .before .before .before .if1 .left)
 
 pub judged-spec : {M : Type 1} → statement M
 judged-spec =
