@@ -108,5 +108,13 @@ int main(void) {
   tell("delegation while an undo is active", 5, 7, 8, 2);
   tell("operation, refused by 22", 4, 4, 0, 0);
   tell("operation while an undo is active", 4, 6, 1, 0);
+  undoing();
+  transactions[10] = IDLE;
+  tell("spawn", 8, 9, 10, 0);
+  tell("a child's commit while an undo is active", 2, 10, 0, 0);
+  busy(255);
+  transactions[10] = IDLE;
+  tell("spawn while no undo is active", 8, 9, 10, 0);
+  tell("a child's commit", 2, 10, 0, 0);
   return 0;
 }

@@ -40,6 +40,7 @@ fn bytes(event: Event) -> Vec<u8> {
         Event::Delegate(t, receiver, operation) => vec![5, t, receiver, operation],
         Event::CommitOne(t, operation) => vec![6, t, operation],
         Event::AbortOne(t, operation) => vec![7, t, operation],
+        Event::Spawn(parent, child) => vec![8, parent, child],
     };
     let mut bytes = Vec::new();
     for mut v in fields {

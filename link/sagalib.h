@@ -88,7 +88,8 @@ enum saga_event {
   SAGA_OPERATION = 4,  /* transaction, object, 0 read or 1 write */
   SAGA_DELEGATE = 5,   /* transaction, receiver, operation number */
   SAGA_COMMIT_ONE = 6, /* transaction, operation number */
-  SAGA_ABORT_ONE = 7   /* transaction, operation number */
+  SAGA_ABORT_ONE = 7,  /* transaction, operation number */
+  SAGA_SPAWN = 8       /* parent, child */
 };
 
 /* What is to be done for a saga: SAGA_BEGIN, SAGA_COMMIT or SAGA_ABORT, or one of these. */

@@ -88,6 +88,8 @@ pub enum Event {
     CommitOne(u64, u64),
     /// Transaction, operation number.
     AbortOne(u64, u64),
+    /// Parent, child.
+    Spawn(u64, u64),
 }
 
 impl Event {
@@ -102,6 +104,7 @@ impl Event {
             Event::Delegate(t, receiver, operation) => [5, t, receiver, operation, 0],
             Event::CommitOne(t, operation) => [6, t, operation, 0, 0],
             Event::AbortOne(t, operation) => [7, t, operation, 0, 0],
+            Event::Spawn(parent, child) => [8, parent, child, 0, 0],
         }
     }
 }

@@ -692,7 +692,7 @@ static void desk_refuses(void) {
   open_desk(&desk, listed, listed_size, SAGA_READ_ON);
   before = desk;
   CHECK(saga_desk_ask(&desk, 0, 0, 0, 0, 0) == SAGA_BAD_CODE);
-  CHECK(saga_desk_take(&desk, 8, 0, 0, 0, 0) == SAGA_BAD_CODE);
+  CHECK(saga_desk_take(&desk, 11, 0, 0, 0, 0) == SAGA_BAD_CODE);
   CHECK(saga_desk_take(&desk, UINT64_MAX, 0, 0, 0, 0) == SAGA_BAD_CODE);
   CHECK(saga_desk_ask(&desk, SAGA_OPERATION, 4, 0, 2, 0) == SAGA_NOT_IN_TABLES);
   CHECK(saga_desk_ask(&desk, SAGA_BEGIN, UINT64_MAX, 0, 0, 0) == SAGA_NOT_IN_TABLES);

@@ -543,6 +543,7 @@ fn bytes(event: Event, edition: u8) -> Vec<u8> {
         Event::Delegate(t, receiver, operation) => vec![5, t, receiver, operation],
         Event::CommitOne(t, operation) => vec![6, t, operation],
         Event::AbortOne(t, operation) => vec![7, t, operation],
+        Event::Spawn(parent, child) => vec![8, parent, child],
     };
     fields.iter().map(|v| *v as u8).collect()
 }
@@ -672,7 +673,7 @@ impl Numbers {
             self.below(3),
             self.below(12),
         );
-        match self.below(10) {
+        match self.below(12) {
             0..=2 => Event::Begin(t),
             3 | 4 => Event::Commit(t),
             5 => Event::Abort(t),
@@ -682,7 +683,8 @@ impl Numbers {
             }
             7 => Event::Delegate(t, u, q),
             8 => Event::CommitOne(t, q),
-            _ => Event::AbortOne(t, q),
+            9 => Event::AbortOne(t, q),
+            _ => Event::Spawn(t, u),
         }
     }
 }

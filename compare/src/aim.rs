@@ -1,6 +1,7 @@
 //! Books whose last event is meant to be refused by one number.
 
 use crate::draft::{Event, Tables};
+use crate::families::story_of_a_family;
 use crate::model::{Circumstance, Model};
 use crate::random::Random;
 use crate::story::{full_story, wild_event, Story};
@@ -18,6 +19,8 @@ pub fn story_aimed_at(random: &mut Random, number: u8) -> Option<Story> {
             11 | 12 if random.one_in(4) => story_around_an_undo(random)?,
             13 if random.one_in(5) => story_of_a_long_saga(random),
             13 if !random.one_in(4) => story_of_sagas(random),
+            9 if random.one_in(4) => story_of_a_family(random),
+            14 if random.one_in(3) => story_of_a_family(random),
             14 if random.one_in(2) => story_of_an_entry(random)?,
             15 if random.one_in(2) => story_with_kept_read(random)?,
             16 if random.one_in(2) => story_with_ring(random)?,
@@ -249,13 +252,13 @@ type Chance = (usize, Event);
 /// A chance after the last event, if one is found.
 fn chance_at_the_end(random: &mut Random, story: &Story, number: u8) -> Option<Chance> {
     let codes: &[usize] = match number {
-        9 => &[3, 4, 5, 6, 7],
-        10 => &[1],
-        11 => &[2, 3, 4, 5, 6, 7],
+        9 => &[3, 4, 5, 6, 6, 7, 8],
+        10 => &[1, 8],
+        11 => &[2, 3, 4, 5, 6, 7, 8],
         12 => &[5, 6, 7],
         17 | 18 => &[4],
         20 => &[6, 7],
-        _ => &[1, 2, 3, 4, 5, 6, 7],
+        _ => &[1, 2, 3, 4, 5, 6, 7, 8],
     };
     let mut chances = Chances::default();
     for _ in 0..120 {
@@ -266,8 +269,8 @@ fn chance_at_the_end(random: &mut Random, story: &Story, number: u8) -> Option<C
     chances.pick(random)
 }
 
-/// A chance to begin, commit or abort a transaction, or to commit a single
-/// operation, wrongly anywhere in the story, if there is one.
+/// A chance to begin, commit, abort or spawn a transaction, or to commit a
+/// single operation, wrongly anywhere in the story, if there is one.
 fn chance_on_the_way(random: &mut Random, story: &Story, number: u8) -> Option<Chance> {
     let mut chances = Chances::default();
     let mut model = Model::new(&story.draft.tables);
@@ -278,6 +281,9 @@ fn chance_on_the_way(random: &mut Random, story: &Story, number: u8) -> Option<C
                 chances.consider(&model, number, (place + 1, wrong));
             }
         }
+        for event in spawnings(random, &model) {
+            chances.consider(&model, number, (place + 1, event));
+        }
         if let Some(kept) = wrongly_kept(random, &model) {
             chances.consider(&model, number, (place + 1, kept));
         }
@@ -286,9 +292,18 @@ fn chance_on_the_way(random: &mut Random, story: &Story, number: u8) -> Option<C
 }
 
 /// A chance to close a ring around an active undo after the last event, by any
-/// operation or by handing some operation on, if there is one.
+/// operation, by handing some operation on or by the commit of a helper, if there
+/// is one.
 fn chance_to_bar_an_undo(random: &mut Random, story: &Story) -> Option<Chance> {
     let model = &story.model;
+    let mut commits = Chances::default();
+    for t in model.active_plain() {
+        let commit = Event::Commit(t as u32);
+        commits.consider(model, 22, (story.draft.events.len(), commit));
+    }
+    if let Some(commit) = commits.pick(random).filter(|_| random.one_in(2)) {
+        return Some(commit);
+    }
     let mut chances = Chances::default();
     let mut consider = |event| chances.consider(model, 22, (story.draft.events.len(), event));
     for t in model.active_operating() {
@@ -305,6 +320,18 @@ fn chance_to_bar_an_undo(random: &mut Random, story: &Story) -> Option<Chance> {
         consider(Event::Delegate(giver, receiver, operation as u32));
     }
     chances.pick(random)
+}
+
+/// Some clerk at work spawns each of those that are idle.
+fn spawnings(random: &mut Random, model: &Model) -> Vec<Event> {
+    let clerks = model.active_plain();
+    if clerks.is_empty() {
+        return Vec::new();
+    }
+    let parent = random.pick(&clerks) as u32;
+    let idle = model.idle_plain().into_iter();
+    idle.map(|child| Event::Spawn(parent, child as u32))
+        .collect()
 }
 
 /// The commit of some single operation by the one that answers for it.

@@ -19,6 +19,8 @@ pub struct Barred {
     handed_on: u64,
     /// Delegations to one that has nothing to do with an undo's objects.
     handed_to_one_far_off: u64,
+    /// Commits of a helper.
+    handed_up: u64,
 }
 
 impl Barred {
@@ -41,12 +43,13 @@ impl Barred {
                 self.handed_on += 1;
                 self.handed_to_one_far_off += u64::from(far_off);
             }
+            Event::Commit(_) => self.handed_up += 1,
             _ => {}
         }
     }
 
     /// Each count with what it counts.
-    pub fn named(&self) -> [(u64, &'static str); 6] {
+    pub fn named(&self) -> [(u64, &'static str); 7] {
         [
             (self.by_others, "operations of another"),
             (self.by_an_undo, "operations of an undo"),
@@ -60,6 +63,7 @@ impl Barred {
                 self.handed_to_one_far_off,
                 "delegations far from the undo's objects",
             ),
+            (self.handed_up, "commits of a helper"),
         ]
     }
 }

@@ -4,6 +4,7 @@ use crate::aim;
 use crate::carried;
 use crate::damage;
 use crate::draft::{encode_field, CEILING_1, CEILING_2};
+use crate::families;
 use crate::noise;
 use crate::ordered;
 use crate::random::Random;
@@ -21,10 +22,11 @@ pub struct Made {
 type Maker = fn(&mut Random) -> Made;
 
 /// How often each kind is made, out of the sum of all.
-const MAKERS: [(usize, Maker); 23] = [
+const MAKERS: [(usize, Maker); 24] = [
     (170, deep),
     (20, full),
     (110, strayed),
+    (80, families::family),
     (390, aimed),
     (110, damage::torn),
     (40, damage::overlong),
@@ -338,7 +340,7 @@ mod tests {
         }
         let of_long_ones = |kind: &str| kind.starts_with("too long") || kind.starts_with("longest");
         let known = kinds.keys().filter(|kind| !of_long_ones(kind)).count();
-        assert_eq!(known, 83);
+        assert_eq!(known, 84);
     }
 
     #[test]

@@ -47,12 +47,12 @@ fn torn_end(random: &mut Random, tables: &Tables) -> Vec<u8> {
     let few = random.below(8) as u8;
     let too_high = (tables.ceiling() >> 14) as u8 + 1;
     match random.below(7) {
-        0 => vec![random.within(1..=7) as u8],
-        1 => vec![random.within(4..=7) as u8, few],
-        2 => vec![random.within(1..=7) as u8, few | 0x80],
-        3 => vec![random.pick(&[0, 8, 9, 127])],
-        4 => vec![random.pick(&[0, 8, 9, 11]), few, few, few],
-        5 => vec![random.within(1..=7) as u8, 0x80, 0x00, 1, 0],
+        0 => vec![random.within(1..=8) as u8],
+        1 => vec![random.within(4..=8) as u8, few],
+        2 => vec![random.within(1..=8) as u8, few | 0x80],
+        3 => vec![random.pick(&[0, 9, 10, 11, 127])],
+        4 => vec![random.pick(&[0, 9, 11, 12]), few, few, few],
+        5 => vec![random.within(1..=8) as u8, 0x80, 0x00, 1, 0],
         _ => vec![2, 0x80, 0x80, random.pick(&[0, too_high, 0x80]), 1, 0],
     }
 }

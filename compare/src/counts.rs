@@ -3,6 +3,7 @@
 use crate::barred::Barred;
 use crate::books::Made;
 use crate::editions::Editions;
+use crate::families::Families;
 use crate::orders::Orders;
 use crate::passed::Passed;
 use crate::replay::replay;
@@ -31,6 +32,7 @@ pub struct Counts {
     orders: Orders,
     passed: Passed,
     editions: Editions,
+    families: Families,
 }
 
 /// The refusals that reading can come to.
@@ -50,6 +52,7 @@ impl Counts {
         let model = replay(&made.bytes, &reading, |model, event, number| {
             self.singles.count(model, event, number);
             self.barred.count(model, event, number);
+            self.families.count(model, event, number);
         });
         if let Some(model) = model {
             self.orders.count(&model);
@@ -91,7 +94,7 @@ impl fmt::Display for Counts {
             }
         }
         write!(output, "{}{}{}", self.singles, self.barred, self.orders)?;
-        write!(output, "{}{}", self.passed, self.editions)
+        write!(output, "{}{}{}", self.passed, self.editions, self.families)
     }
 }
 
@@ -124,6 +127,9 @@ mod tests {
             }
             for (count, name) in counts.editions.counted() {
                 assert!(count >= 100, "{count} {name}");
+            }
+            for (count, name) in counts.families.counted() {
+                assert!(count >= 5, "{count} {name}");
             }
             for number in (8..=18).chain([20, 22]) {
                 assert!(counts.passed.by_number(number) >= 15, "{number}");

@@ -45,7 +45,7 @@ pub fn torn(random: &mut Random) -> Made {
         4 => {
             let mut bytes = upto(random.pick(&starts));
             let unknown = random.pick(&[64, 127, 128, CEILING_1, draft.tables.ceiling()]);
-            bytes.extend(encode(&[random.within(4..=7) as u32, unknown]));
+            bytes.extend(encode(&[random.within(4..=8) as u32, unknown]));
             made(bytes, "torn behind an unknown transaction")
         }
         _ => made(upto(random.pick(&starts) + 1), "torn after an event code"),
@@ -305,7 +305,7 @@ pub fn bad_event_code(random: &mut Random) -> Made {
     let mut fields = draft.fields();
     let code = match random.below(4) {
         0 => far_outside(random, &draft.tables),
-        _ => random.pick(&[0, 8, 9, 127, 128, 256, 257, 16_385]),
+        _ => random.pick(&[0, 9, 10, 11, 127, 128, 256, 257, 264, 16_385]),
     };
     if random.one_in(2) {
         fields.push(code);

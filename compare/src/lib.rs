@@ -11,6 +11,7 @@ pub mod counts;
 mod damage;
 mod draft;
 mod editions;
+mod families;
 mod mending;
 mod model;
 mod noise;

@@ -55,6 +55,9 @@ pub enum Circumstance {
     FarFromUndos(bool),
     /// Whether an active undo would be on a ring.
     Bars(bool),
+    /// Whether it was spawned, whether a child of it is at work, and whether it
+    /// lost its parent.
+    Family(bool, bool, bool),
     /// The sort of one that an undo has to wait for.
     WaitsFor(&'static str),
     /// The code of an event, and for each field behind it whether it is known.
@@ -70,6 +73,7 @@ pub struct Operation {
     writes: bool,
     phase: Phase,
     pub responsible: usize,
+    invoker: usize,
     /// The earlier operations it is tied to: those in conflict with it that
     /// weren't aborted when it was accepted.
     tied: Vec<usize>,
@@ -77,6 +81,8 @@ pub struct Operation {
 
 #[derive(Clone, Debug)]
 pub struct Model {
+    /// For each transaction, the one that it was spawned under, if it was.
+    parents: Vec<Option<usize>>,
     /// The highest value that a field of an event may have. Nothing is judged by
     /// it; who makes events has to keep to it.
     pub ceiling: u32,
@@ -99,6 +105,7 @@ impl Model {
         sorts.extend((0..tables.plain).map(|_| Sort::Plain));
         Model {
             ceiling: tables.ceiling(),
+            parents: vec![None; sorts.len()],
             phases: vec![Phase::Idle; sorts.len()],
             sorts,
             objects: tables.objects,
@@ -152,6 +159,13 @@ impl Model {
         active
     }
 
+    /// The plain transactions that are still idle.
+    pub fn idle_plain(&self) -> Vec<usize> {
+        let mut idle = self.in_phase(Phase::Idle);
+        idle.retain(|t| self.sorts[*t] == Sort::Plain);
+        idle
+    }
+
     /// The active operations that plain transactions answer for.
     pub fn operations_to_end_alone(&self) -> Vec<usize> {
         let all = 0..self.operations.len();
@@ -189,6 +203,7 @@ impl Model {
             Event::AbortOperation(t, operation) => {
                 self.verdict_on_single_end(t as usize, operation as usize)
             }
+            Event::Spawn(parent, child) => self.verdict_on_spawn(parent as usize, child as usize),
         }
     }
 
@@ -211,6 +226,7 @@ impl Model {
             Event::CommitOperation(t, operation) | Event::AbortOperation(t, operation) => {
                 [transaction(t), accepted(operation), true]
             }
+            Event::Spawn(parent, child) => [transaction(parent), transaction(child), true],
         }
     }
 
@@ -226,13 +242,80 @@ impl Model {
         }
     }
 
+    fn verdict_on_spawn(&self, parent: usize, child: usize) -> u8 {
+        if self.sorts[parent] != Sort::Plain || self.sorts[child] != Sort::Plain {
+            9
+        } else if self.phases[child] != Phase::Idle {
+            10
+        } else if self.phases[parent] != Phase::Active {
+            11
+        } else if self.entries_of(child).any(bars_begin) {
+            14
+        } else {
+            0
+        }
+    }
+
+    pub fn parent(&self, t: usize) -> Option<usize> {
+        self.parents[t]
+    }
+
+    /// Who did an operation at first.
+    pub fn invoker(&self, operation: usize) -> usize {
+        self.operations[operation].invoker
+    }
+
+    /// The active operations that one answers for.
+    pub fn at_work_on(&self, t: usize) -> Vec<usize> {
+        let all = 0..self.operations.len();
+        all.filter(|q| {
+            let operation = &self.operations[*q];
+            operation.responsible == t && operation.phase == Phase::Active
+        })
+        .collect()
+    }
+
+    /// Whether 15 or 16 would bar a commit of `t`, if they were judged.
+    pub fn is_dirty_or_on_a_ring(&self, t: usize) -> bool {
+        self.dirty_reads_of(t).next().is_some() || self.is_on_a_ring(t)
+    }
+
+    /// How many spawned this one after another: 0 for one that began by itself.
+    pub fn depth(&self, t: usize) -> usize {
+        self.parents[t].map_or(0, |parent| 1 + self.depth(parent))
+    }
+
+    /// The children of `t` that are at work.
+    pub fn active_children(&self, t: usize) -> Vec<usize> {
+        let mut active = self.in_phase(Phase::Active);
+        active.retain(|child| self.parents[*child] == Some(t));
+        active
+    }
+
+    /// Whether `t` was spawned under one that has ended since.
+    pub fn has_lost_its_parent(&self, t: usize) -> bool {
+        let ended = |parent: usize| {
+            self.phases[parent] == Phase::Committed || self.phases[parent] == Phase::Aborted
+        };
+        self.parents[t].is_some_and(ended)
+    }
+
     fn verdict_on_commit(&self, t: usize) -> u8 {
         if self.phases[t] != Phase::Active {
             11
         } else if self.broken_saga_rules(Event::Commit(t as u32)) > 0 {
             13
-        } else if self.entries_of(t).any(bars_commit) {
+        } else if self.entries_of(t).any(bars_commit)
+            || !self.active_children(t).is_empty()
+            || self.has_lost_its_parent(t)
+        {
             14
+        } else if self.parents[t].is_some() {
+            if self.bars_an_undo(Event::Commit(t as u32)) {
+                22
+            } else {
+                0
+            }
         } else if self.dirty_reads_of(t).next().is_some() {
             15
         } else if self.is_on_a_ring(t) {
@@ -375,6 +458,9 @@ impl Model {
     }
 
     fn verdict_on_single_commit(&self, t: usize, operation: usize) -> u8 {
+        if self.parents[t].is_some() {
+            return 9;
+        }
         match self.verdict_on_single_end(t, operation) {
             0 if self.unsettled_writes_before(t, operation).next().is_some() => 15,
             0 if self.is_on_a_ring(t) => 16,
@@ -491,7 +577,7 @@ impl Model {
                 let dirty = self.dirty_reads_of(t).next();
                 let dirty = dirty.map(|(read, write)| self.dirty(read, write));
                 let on_commit = entry.into_iter().chain(dirty).chain(self.rings(t));
-                [self.around(t), on_commit.collect()].concat()
+                [self.around(t), self.family(t), on_commit.collect()].concat()
             }
             Event::Abort(t) => self.around(t as usize),
             Event::Operation(t, object, mark) => {
@@ -512,17 +598,37 @@ impl Model {
                 [self.acting(giver), self.acting(receiver), handed].concat()
             }
             Event::CommitOperation(t, operation) => {
-                let (acting, t) = (self.acting(t), (t as usize));
+                let (acting, t) = (self.acting(t), t as usize);
                 let operation = operation as usize;
                 let write = self.unsettled_writes_before(t, operation).next();
                 let dirty = write.map(|write| self.dirty(operation, write));
                 let on_commit = dirty.into_iter().chain(self.rings(t));
-                [acting, self.single(operation), on_commit.collect()].concat()
+                let (family, single) = (self.family(t), self.single(operation));
+                [acting, family, single, on_commit.collect()].concat()
             }
             Event::AbortOperation(t, operation) => {
-                [self.acting(t), self.single(operation as usize)].concat()
+                let (family, single) = (self.family(t as usize), self.single(operation as usize));
+                [self.acting(t), family, single].concat()
+            }
+            Event::Spawn(parent, child) => {
+                let barring = self.entries_of(child as usize);
+                let barring = barring.into_iter().find(|entry| bars_begin(*entry));
+                let entry = barring.map(|(base, kind)| Entry(base, kind));
+                let family = self.family(parent as usize);
+                let both = [self.acting(parent), self.acting(child)].concat();
+                [both, family, entry.into_iter().collect()].concat()
             }
         }
+    }
+
+    fn family(&self, t: usize) -> Vec<Circumstance> {
+        let spawned = self.parents[t].is_some();
+        let with_children = !self.active_children(t).is_empty();
+        vec![Circumstance::Family(
+            spawned,
+            with_children,
+            self.has_lost_its_parent(t),
+        )]
     }
 
     fn acting(&self, t: u32) -> Vec<Circumstance> {
@@ -683,7 +789,12 @@ impl Model {
     pub fn take(&mut self, event: Event) {
         match event {
             Event::Begin(t) => self.phases[t as usize] = Phase::Active,
-            Event::Commit(t) => self.end(t as usize, Phase::Committed),
+            Event::Commit(t) => {
+                if let Some(parent) = self.parents[t as usize] {
+                    self.hand_all_over(t as usize, parent);
+                }
+                self.end(t as usize, Phase::Committed);
+            }
             Event::Abort(t) => self.end(t as usize, Phase::Aborted),
             Event::Operation(t, object, mark) => {
                 let writes = mark == 1;
@@ -693,6 +804,7 @@ impl Model {
                     writes,
                     phase: Phase::Active,
                     responsible: t as usize,
+                    invoker: t as usize,
                     tied,
                 });
             }
@@ -707,6 +819,19 @@ impl Model {
             }
             Event::AbortOperation(_, operation) => {
                 self.operations[operation as usize].phase = Phase::Aborted;
+            }
+            Event::Spawn(parent, child) => {
+                self.phases[child as usize] = Phase::Active;
+                self.parents[child as usize] = Some(parent as usize);
+            }
+        }
+    }
+
+    /// All that one is at work on becomes another's.
+    fn hand_all_over(&mut self, giver: usize, receiver: usize) {
+        for operation in &mut self.operations {
+            if operation.responsible == giver && operation.phase == Phase::Active {
+                operation.responsible = receiver;
             }
         }
     }

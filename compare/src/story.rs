@@ -19,6 +19,8 @@ struct Mood {
     keep: usize,
     /// Aborts of a single operation.
     drop: usize,
+    /// Helpers under a clerk.
+    spawn: usize,
 }
 
 const EVEN: Mood = Mood {
@@ -30,6 +32,7 @@ const EVEN: Mood = Mood {
     saga: 5,
     keep: 3,
     drop: 2,
+    spawn: 1,
 };
 const WORKING: Mood = Mood {
     operate: 40,
@@ -61,14 +64,22 @@ const MOVING_SAGAS: Mood = Mood {
     saga: 30,
     keep: 2,
     drop: 1,
+    spawn: 0,
+};
+const HELPING: Mood = Mood {
+    begin: 2,
+    commit: 6,
+    spawn: 8,
+    ..EVEN
 };
 const SORTING_OUT: Mood = Mood {
     keep: 15,
     drop: 6,
     ..EVEN
 };
-const MOODS: [Mood; 7] = [
+const MOODS: [Mood; 8] = [
     EVEN,
+    HELPING,
     WORKING,
     HANDING_ON,
     FAILING,
@@ -85,6 +96,7 @@ const KEEPING: Mood = Mood {
     saga: 6,
     keep: 10,
     drop: 1,
+    spawn: 1,
 };
 const FILLING: Mood = Mood {
     begin: 20,
@@ -199,7 +211,7 @@ impl Story {
 
     /// Adds some event whatever becomes of it.
     pub fn stray(&mut self, random: &mut Random) {
-        let code = random.within(1..=7);
+        let code = random.within(1..=8);
         let event = wild_event(random, &self.model, code);
         self.add(event);
     }
@@ -216,6 +228,7 @@ fn draw_event(random: &mut Random, model: &Model, mood: Mood) -> Option<Event> {
         mood.saga,
         mood.keep,
         mood.drop,
+        mood.spawn,
     ];
     let operating = model.active_operating();
     let sort = if operating.len() < 2 && random.one_in(2) {
@@ -242,7 +255,12 @@ fn draw_event(random: &mut Random, model: &Model, mood: Mood) -> Option<Event> {
         }
         5 => draw_saga_event(random, model),
         6 => draw_own(random, model).map(|(t, own)| Event::CommitOperation(t, own)),
-        _ => draw_own(random, model).map(|(t, own)| Event::AbortOperation(t, own)),
+        7 => draw_own(random, model).map(|(t, own)| Event::AbortOperation(t, own)),
+        _ => {
+            let parent = draw(random, &model.active_plain())?;
+            let child = draw(random, &model.idle_plain())?;
+            Some(Event::Spawn(parent, child))
+        }
     }
 }
 
@@ -331,11 +349,23 @@ pub fn wild_event(random: &mut Random, model: &Model, code: usize) -> Event {
             let (t, operation) = wild_own(random, model);
             Event::CommitOperation(t, operation)
         }
-        _ => {
+        7 => {
             let (t, operation) = wild_own(random, model);
             Event::AbortOperation(t, operation)
         }
+        _ => wild_spawn(random, model),
     }
+}
+
+/// Every other time a clerk at work spawns somebody, or somebody spawns one that
+/// is idle, or both.
+fn wild_spawn(random: &mut Random, model: &Model) -> Event {
+    let mut mostly_of = |likely: Vec<usize>| match draw(random, &likely) {
+        Some(t) if random.one_in(2) => t,
+        _ => wild_field(random, model.transactions(), model.ceiling),
+    };
+    let parent = mostly_of(model.active_plain());
+    Event::Spawn(parent, mostly_of(model.idle_plain()))
 }
 
 /// A transaction and an operation that it is to hand on or to end alone. Every
@@ -445,6 +475,7 @@ mod tests {
                 transaction,
                 operation,
             },
+            Event::Spawn(parent, child) => second::Event::Spawn { parent, child },
         }
     }
 
@@ -454,13 +485,29 @@ mod tests {
         sagas.map(|saga| second::outstanding(reading, saga)).sum()
     }
 
+    /// Compares the phases of all transactions, and all about the operations.
+    fn says_the_same(reading: &second::Reading, model: &Model) {
+        let state = &reading.state;
+        for t in 0..model.transactions() {
+            let phase = format!("{:?}", state.phase(t));
+            assert_eq!(phase, format!("{:?}", model.phase(t)), "{t}");
+        }
+        assert_eq!(state.operations(), model.operations.len());
+        for (number, operation) in model.operations.iter().enumerate() {
+            assert_eq!(state.responsible(number), operation.responsible, "{number}");
+            let phase = format!("{:?}", state.operation_phase(number));
+            let by_model = format!("{:?}", model.operation_phase(number));
+            assert_eq!(phase, by_model, "{number}");
+        }
+    }
+
     /// Walks through a story event by event, offers the model and the second
     /// program others on the way, and compares what they say.
     fn walk(random: &mut Random, story: &Story) {
         let mut model = Model::new(&story.draft.tables);
         let mut reading = second::read_circles_permitted(&encode(&story.draft.tables.fields()));
         for event in &story.draft.events {
-            for code in [1, 2, 2, 3, 4, 5, 6, 6, 7] {
+            for code in [1, 2, 2, 3, 4, 5, 6, 6, 7, 8, 8] {
                 let other = wild_event(random, &model, code);
                 let mut offered = reading.clone();
                 let answer = offered
@@ -483,6 +530,7 @@ mod tests {
             assert_eq!(second::report(&reading).pairs, model.pairs());
             assert_eq!(reading.state.left(), sum_over_sagas(&reading), "{event:?}");
             assert_eq!(reading.state.left(), model.left(), "{event:?}");
+            says_the_same(&reading, &model);
             for (index, (saga, steps)) in model.sagas().into_iter().enumerate() {
                 let closing = second::closing(&reading, index);
                 let fields = closing.map(|(code, t)| vec![code.into(), t as u32]);

@@ -12,8 +12,9 @@ const WRITE: u32 = 1;
 /// How many draws until filling a story up is given up.
 const DRAWS: usize = 1500;
 
-/// A story in which clerks stand before an active undo and others after it,
-/// now and then with another undo at work, and with 256 operations. None if no undo comes to begin, or too few
+/// A story in which clerks stand before an active undo and others after it, every
+/// other time one of them a helper under another, now and then with another undo
+/// at work, and with 256 operations. None if no undo comes to begin, or too few
 /// clerks do.
 pub fn story_around_an_undo(random: &mut Random) -> Option<Story> {
     let mut story = Story::new(tables_for(random, 22));
@@ -22,10 +23,27 @@ pub fn story_around_an_undo(random: &mut Random) -> Option<Story> {
         0 => begin_some_undo(random, &mut story),
         _ => None,
     };
-    for t in plain_numbers(&story.draft.tables) {
-        story.go_on_with(Event::Begin(t));
+    let mut clerks = random.shuffled(plain_numbers(&story.draft.tables));
+    if let [before, between, after, last, ..] = clerks[..] {
+        let families = [
+            (before, after),
+            (before, after),
+            (before, last),
+            (after, before),
+            (last, before),
+            (before, between),
+        ];
+        let (parent, child) = random.pick(&families);
+        if random.one_in(2) {
+            story.go_on_with(Event::Begin(parent));
+            story.go_on_with(Event::Spawn(parent, child));
+        }
     }
-    let clerks = random.shuffled(active_clerks(&story.model));
+    for t in &clerks {
+        story.go_on_with(Event::Begin(*t));
+    }
+    let active = active_clerks(&story.model);
+    clerks.retain(|t| active.contains(t));
     let [before, between, after, last, ..] = clerks[..] else {
         return None;
     };
@@ -37,7 +55,8 @@ pub fn story_around_an_undo(random: &mut Random) -> Option<Story> {
     if let Some(other) = other_undo {
         story.go_on_with(Event::Operation(other, read_by_all, READ));
     }
-    if random.one_in(2) {
+    let may_keep = story.model.parent(before as usize).is_none();
+    if may_keep && random.one_in(2) {
         stand_before(random, &mut story, before, undone);
     } else {
         story.go_on_with(Event::Operation(before, read_by_all, READ));

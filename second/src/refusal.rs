@@ -21,15 +21,15 @@ pub const UNKNOWN_EVENT: u8 = 7;
 pub const NOT_IN_THE_TABLES: u8 = 8;
 /// That sort of transaction never does this, or it delegates to itself.
 pub const NEVER_DONE: u8 = 9;
-/// Begin of a transaction that isn't idle.
+/// Begin or spawn of a transaction that isn't idle.
 pub const NOT_IDLE: u8 = 10;
-/// The acting transaction, or the receiver, isn't active.
+/// The acting transaction, the receiver, or the one that spawns isn't active.
 pub const NOT_ACTIVE: u8 = 11;
 /// The delegator, or the one that ends an operation alone, isn't responsible for it.
 pub const NOT_RESPONSIBLE: u8 = 12;
 /// The rules of the saga bar it.
 pub const SAGA_RULE: u8 = 13;
-/// A declared dependency bars it.
+/// A declared dependency bars it, or the helpers under a clerk bar a commit.
 pub const DECLARED_DEPENDENCY: u8 = 14;
 /// The commit would make a dirty read good.
 pub const DIRTY_READ: u8 = 15;
@@ -45,8 +45,8 @@ pub const ROOM_TOO_SMALL: u8 = 19;
 pub const ALREADY_ENDED: u8 = 20;
 /// Declared begin dependencies lead from a transaction back to itself.
 pub const NEVER_MOVES: u8 = 21;
-/// The operation or the delegation would put an active undo on a ring of ties,
-/// and then the undo could not commit.
+/// The operation, the delegation or the commit of a helper would put an active
+/// undo on a ring of ties, and then the undo could not commit.
 pub const UNDO_ON_A_RING: u8 = 22;
 /// 1,000 books are read for the term already.
 pub const TOO_MANY_BOOKS: u8 = 23;

@@ -35,6 +35,11 @@ pub struct State {
     /// The operations it answers for ended with it, but for those that ended
     /// alone before, so this tells which later operations found them active.
     ended_at: [u16; MOST_TRANSACTIONS],
+    /// The helpers: transactions that were spawned under a clerk, as bits. They
+    /// stay helpers for good.
+    spawned: u64,
+    /// For each helper, the transaction it was spawned under.
+    parent_of: [u8; MOST_TRANSACTIONS],
     /// The sum of outstanding over all sagas, kept so that the board above the
     /// pass can be redrawn after each event.
     left: usize,
@@ -78,6 +83,8 @@ impl State {
         committed: 0,
         aborted: 0,
         ended_at: [0; MOST_TRANSACTIONS],
+        spawned: 0,
+        parent_of: [0; MOST_TRANSACTIONS],
         left: 0,
         accepted: 0,
         object_of: [0; MOST_OPERATIONS],
@@ -173,6 +180,13 @@ impl State {
         (self.committed | self.aborted) & bit(transaction) != 0
     }
 
+    /// The transaction that a helper was spawned under; none for any other.
+    #[inline]
+    fn parent(&self, transaction: usize) -> Option<usize> {
+        let is_helper = self.spawned & bit(transaction) != 0;
+        is_helper.then(|| usize::from(self.parent_of[transaction]))
+    }
+
     /// Judges one event and, if it is accepted, takes it in. A refused one
     /// changes nothing, so the caller may go on with another.
     #[inline(always)]
@@ -199,6 +213,7 @@ impl State {
                 transaction,
                 operation,
             } => self.abort_operation(tables, transaction, operation),
+            Event::Spawn { parent, child } => self.spawn(tables, parent, child),
         }
     }
 
@@ -233,6 +248,24 @@ impl State {
         Ok(())
     }
 
+    /// Begins a helper under a clerk who is at work.
+    fn spawn(&mut self, tables: &Tables, parent: u32, child: u32) -> Result<(), u8> {
+        let parent = known_transaction(tables, parent)?;
+        let child = known_transaction(tables, child)?;
+        let both_plain = [parent, child].map(|t| tables.sort(t)) == [Sort::Plain; 2];
+        refuse_unless(both_plain, refusal::NEVER_DONE)?;
+        refuse_unless(self.is_idle(child), refusal::NOT_IDLE)?;
+        refuse_unless(self.is_active(parent), refusal::NOT_ACTIVE)?;
+        refuse_unless(
+            self.dependencies_let_begin(tables, child),
+            refusal::DECLARED_DEPENDENCY,
+        )?;
+        self.active |= bit(child);
+        self.spawned |= bit(child);
+        self.parent_of[child] = parent as u8;
+        Ok(())
+    }
+
     fn commit(&mut self, tables: &Tables, transaction: u32) -> Result<(), u8> {
         let t = known_transaction(tables, transaction)?;
         refuse_unless(self.is_active(t), refusal::NOT_ACTIVE)?;
@@ -241,14 +274,38 @@ impl State {
             self.dependencies_let_commit(tables, t),
             refusal::DECLARED_DEPENDENCY,
         )?;
-        let own_reads = self.answered_by[t].without(&self.writes);
-        refuse_unless(!self.has_dirty_read(t, own_reads), refusal::DIRTY_READ)?;
-        refuse_unless(!self.is_on_a_ring(t), refusal::ON_A_RING)?;
-        let ended = self.end_operations(t);
-        self.committed_operations = self.committed_operations.or(&ended);
+        refuse_unless(self.family_lets_commit(t), refusal::DECLARED_DEPENDENCY)?;
+        if let Some(parent) = self.parent(t) {
+            self.hand_to_parent(tables, t, parent)?;
+        } else {
+            let own_reads = self.answered_by[t].without(&self.writes);
+            refuse_unless(!self.has_dirty_read(t, own_reads), refusal::DIRTY_READ)?;
+            refuse_unless(!self.is_on_a_ring(t), refusal::ON_A_RING)?;
+            let ended = self.end_operations(t);
+            self.committed_operations = self.committed_operations.or(&ended);
+        }
         self.active &= !bit(t);
         self.committed |= bit(t);
         Ok(())
+    }
+
+    /// Hands what a helper is at work on to the clerk above it, unless that
+    /// would bar an undo: then it is taken back.
+    fn hand_to_parent(&mut self, tables: &Tables, child: usize, parent: usize) -> Result<(), u8> {
+        let handed = self.answered_by[child].and(&self.active_operations);
+        self.hand_over_all(handed, child, parent);
+        if self.would_bar_an_undo(tables, parent, OperationSet::EMPTY) {
+            self.hand_over_all(handed, parent, child);
+            return Err(refusal::UNDO_ON_A_RING);
+        }
+        Ok(())
+    }
+
+    fn hand_over_all(&mut self, mut operations: OperationSet, giver: usize, receiver: usize) {
+        while let Some(operation) = operations.lowest() {
+            self.hand_over(operation, giver, receiver);
+            operations.remove(operation);
+        }
     }
 
     fn abort(&mut self, tables: &Tables, transaction: u32) -> Result<(), u8> {
@@ -355,6 +412,7 @@ impl State {
         transaction: u32,
         operation: u32,
     ) -> Result<(), u8> {
+        self.helpers_keep_nothing(transaction, operation)?;
         let (t, operation) = self.own_active_operation(tables, transaction, operation)?;
         let read = OperationSet::of(operation).without(&self.writes);
         refuse_unless(!self.has_dirty_read(t, read), refusal::DIRTY_READ)?;
@@ -362,6 +420,15 @@ impl State {
         self.end_alone(operation);
         self.committed_operations.insert(operation);
         Ok(())
+    }
+
+    /// No helper ever keeps a single operation, whatever its state: what it does
+    /// goes to the clerk above it. Only what isn't in the tables comes first.
+    fn helpers_keep_nothing(&self, transaction: u32, operation: u32) -> Result<(), u8> {
+        let t = transaction as usize;
+        let is_helper = t < MOST_TRANSACTIONS && self.parent(t).is_some();
+        let is_known = self.known_operation(operation).is_ok();
+        refuse_unless(!is_helper || !is_known, refusal::NEVER_DONE)
     }
 
     fn abort_operation(
@@ -460,6 +527,28 @@ impl State {
                 Kind::Begin | Kind::Serial | Kind::BeginOnCommit | Kind::BeginOnAbort => true,
             }
         })
+    }
+
+    /// Whether a transaction's family lets it commit: none of its helpers is at
+    /// work, and if it is a helper itself, the clerk above it hasn't ended.
+    #[inline]
+    fn family_lets_commit(&self, t: usize) -> bool {
+        self.spawned == 0
+            || !self.has_active_helper(t)
+                && !self.parent(t).is_some_and(|parent| self.is_ended(parent))
+    }
+
+    /// Whether one that was spawned under `t` itself is at work.
+    fn has_active_helper(&self, t: usize) -> bool {
+        let mut at_work = self.spawned & self.active;
+        while at_work != 0 {
+            let helper = at_work.trailing_zeros() as usize;
+            if usize::from(self.parent_of[helper]) == t {
+                return true;
+            }
+            at_work &= !bit(helper);
+        }
+        false
     }
 
     /// The operations on an object that conflict with a new one: same object,

@@ -20,7 +20,9 @@ use Rattle.ties.specs.declared.Fate.the-variants.{Aborted, Active, Committed}
 use Rattle.ties.specs.declared.Operation.{Operation}
 use Rattle.ties.specs.Operations.{mostOperations, isActive, noOperation, noOps, opAt, size, passedTo, givenTo, heldBy, endedAs, endedAlone, endedOne, endedOps, changed, rewrites, rewritten, onlyActive, allHeldBy}
 use Rattle.ties.proofs.OpsLaws.{made-room, made-full, stored, one-stored, one-past, changed-none, changed-more, changed-above, changed-all}
-use Rattle.cells.specs.Cells.{markIn, fateIn, markCode, fateCode, opIn, opsIn, fits, madeIn, givenIn, heldIn, Next, WholeOps}
+use Rattle.cells.specs.Cells.{markIn, fateIn, markCode, fateCode, opIn, opsIn, fits, madeIn, givenIn, becomes, keepsFit, heldIn, Next, WholeOps}
+use Rattle.cells.specs.declared.Becomes.{Becomes}
+use Rattle.cells.specs.declared.Becomes.the-variants.{Ended as EndedThen, Passed as PassedThen}
 
 -- ---- one number
 
@@ -195,57 +197,60 @@ module _ (l : List ℕ) (n q : ℕ) (fate : Fate) where
   pub ended-one-past : min n mostOperations ≤ q → opsIn l n ≡ endedOne q fate (opsIn l n)
   ended-one-past h = one-out l n q (endedAs fate (size (opsIn l n))) h
 
--- ---- those that t is responsible for end
+-- ---- those that t is responsible for are rewritten
 
--- the first i of the numbers stand for what ending makes of those that stood there
-module _ (t : ℕ) (fate : Fate) (accepted : ℕ) (l₀ : List ℕ) where
-  abbrev pub ends : ℕ → Operation → Operation
-  ends = rewrites (allHeldBy t) (endedAs fate accepted)
+-- the first i of the numbers stand for what is made of those that stood there
+module _ (t : ℕ) (how : Operation → Operation) (l₀ : List ℕ) where
+  abbrev pub makes : ℕ → Operation → Operation
+  makes = rewrites (allHeldBy t) how
 
-  abbrev pub Ended : ℕ → List ℕ → Type 0
-  Ended i l = map opIn l ≡ changed i ends (map opIn l₀)
+  abbrev pub Done : ℕ → List ℕ → Type 0
+  Done i l = map opIn l ≡ changed i makes (map opIn l₀)
 
-  pub ended-none : Ended 0 l₀
-  ended-none = changed-none ends (map opIn l₀)
+  pub done-none : Done 0 l₀
+  done-none = changed-none makes (map opIn l₀)
 
-  module _ (i : ℕ) (l : List ℕ) (h : Ended i l) (op : Operation) (e : op ≡ opIn (getD l i 0)) where
+  module _ (i : ℕ) (l : List ℕ) (h : Done i l) (op : Operation) (e : op ≡ opIn (getD l i 0)) where
     here : op ≡ getD (map opIn l₀) i noOperation
     here =
         e
         ∙ sym (mapped-at l i)
         ∙ ap (λ (s : List Operation). getD s i noOperation) h
-        ∙ changed-above i ends (map opIn l₀) i (omega arith)
+        ∙ changed-above i makes (map opIn l₀) i (omega arith)
 
-    more : (x : ℕ) → opIn x ≡ ends i op → Ended (i + 1) (set l i x)
+    more : (x : ℕ) → opIn x ≡ makes i op → Done (i + 1) (set l i x)
     more x g =
         map-set opIn l i x
-        ∙ ap₂ (λ (s : List Operation) (o : Operation). set s i o) h (g ∙ ap (ends i) here)
-        ∙ changed-more i ends (map opIn l₀)
+        ∙ ap₂ (λ (s : List Operation) (o : Operation). set s i o) h (g ∙ ap (makes i) here)
+        ∙ changed-more i makes (map opIn l₀)
 
     -- one that t holds, and any other
-    pub ended-held : (x : ℕ) → heldBy t op ≡ true → opIn x ≡ endedAs fate accepted op → Ended (i + 1) (set l i x)
-    ended-held x b g = more x (g ∙ rw b)
+    pub done-held : (x : ℕ) → heldBy t op ≡ true → opIn x ≡ how op → Done (i + 1) (set l i x)
+    done-held x b g = more x (g ∙ rw b)
 
-    pub ended-free : heldBy t op ≡ false → Ended (i + 1) l
-    ended-free b = ap (map opIn) (sym (set-getD l i 0)) ∙ more (getD l i 0) (sym e ∙ rw b)
+    pub done-free : heldBy t op ≡ false → Done (i + 1) l
+    done-free b = ap (map opIn) (sym (set-getD l i 0)) ∙ more (getD l i 0) (sym e ∙ rw b)
 
   -- the next that t holds, past all that it does not
-  pub ended-next : (i to r : ℕ) (l : List ℕ) → Ended i l → Next (heldIn l t) i to r → Ended r l
-  ended-next i to r l h x =
-      subst (λ (k : ℕ). Ended k l) (omega (arith, x .low)) (on (r - i) (omega arith))
+  pub done-next : (i to r : ℕ) (l : List ℕ) → Done i l → Next (heldIn l t) i to r → Done r l
+  done-next i to r l h x =
+      subst (λ (k : ℕ). Done k l) (omega (arith, x .low)) (on (r - i) (omega arith))
     where
-      on : (k : ℕ) → i + k ≤ r → Ended (i + k) l
-      on zero b = subst⁻¹ (λ (m : ℕ). Ended m l) (add-zero i) h
+      on : (k : ℕ) → i + k ≤ r → Done (i + k) l
+      on zero b = subst⁻¹ (λ (m : ℕ). Done m l) (add-zero i) h
       on (suc k) b =
-          subst (λ (m : ℕ). Ended m l) (omega arith)
-          (ended-free (i + k) l (on k (omega arith)) (opIn (getD l (i + k) 0)) refl (x .none (i + k) (omega arith) (omega arith)))
+          subst (λ (m : ℕ). Done m l) (omega arith)
+          (done-free (i + k) l (on k (omega arith)) (opIn (getD l (i + k) 0)) refl (x .none (i + k) (omega arith) (omega arith)))
 
-pub ended-all : (t : ℕ) (fate : Fate) (all : ℕ) (l₀ : List ℕ) (n i : ℕ) (l : List ℕ) → Ended t fate all l₀ i l → all ≡ min n mostOperations → i ≡ all
-    → opsIn l n ≡ endedOps t fate (opsIn l₀ n)
+pub done-all : (t : ℕ) (how : Operation → Operation) (l₀ : List ℕ) (n i : ℕ) (l : List ℕ) → Done t how l₀ i l → i ≡ min n mostOperations
+    → opsIn l n ≡ rewritten (allHeldBy t) how (opsIn l₀ n)
 unfolding opsIn
-ended-all t fate all l₀ n i l h s e =
-    changed-all (allHeldBy t) (endedAs fate (min n mostOperations)) (opsIn l₀ n) i (map opIn l)
-    (h ∙ ap (λ (k : ℕ). changed i (ends t fate k l₀) (map opIn l₀)) s) (e ∙ s)
+done-all t how l₀ n i l h e = changed-all (allHeldBy t) how (opsIn l₀ n) i (map opIn l) h e
+
+-- whatever becomes of an operation, a number can stand for it
+pub becomes-fits : (how : Becomes) (op : Operation) → keepsFit how → fits op ≡ true → fits (becomes how op) ≡ true
+becomes-fits (EndedThen fate accepted) op l h = ended-fits fate accepted op l h
+becomes-fits (PassedThen receiver) op l h = let s = fit-parts op h in parts-fit (passedTo receiver op) (s .0) l (s .1 .1)
 
 -- ---- the operations by value
 

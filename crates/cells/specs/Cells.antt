@@ -13,8 +13,10 @@ use Rattle.ties.specs.declared.Fate.{Fate}
 use Rattle.ties.specs.declared.Fate.the-variants.{Aborted, Active, Committed}
 use Rattle.ties.specs.declared.Operation.{Operation}
 use Rattle.ties.specs.declared.Ops.{Ops}
-use Rattle.ties.specs.Operations.{made, given, heldBy, mostOperations, noOperation, opAt}
+use Rattle.ties.specs.Operations.{endedAs, made, given, handed, heldBy, mostOperations, noOperation, opAt, passedTo}
 use Rattle.ties.specs.Ties.{readBy}
+use Rattle.cells.specs.declared.Becomes.{Becomes}
+use Rattle.cells.specs.declared.Becomes.the-variants.{Ended, Passed}
 
 abbrev pub markIn : ℕ → Mark
 markIn k = cond (eqb k 0) Read Write
@@ -46,12 +48,25 @@ WholeOps ops = (length (ops .all) ≡ mostOperations) × ((q : ℕ) → ops .cou
 abbrev pub fits : Operation → Bool
 fits op = ltb (op .object) mostObjects && (ltb (op .responsible) mostTransactions && ltb (op .ended) 512)
 
--- one operation more, and one given; what no number can stand for is neither made nor given
+-- one operation more, one given, and all of t's handed over; what no number can stand for is neither made nor given
 abbrev pub madeIn : Operation → Ops → Ops
 madeIn op ops = cond (fits op) (made op ops) ops
 
 abbrev pub givenIn : ℕ → ℕ → Ops → Ops
 givenIn q receiver ops = cond (ltb receiver mostTransactions) (given q receiver ops) ops
+
+abbrev pub handedIn : ℕ → ℕ → Ops → Ops
+handedIn t receiver ops = cond (ltb receiver mostTransactions) (handed t receiver ops) ops
+
+-- what becomes of each operation that t is at work on: it ends, when so many were accepted, or another answers for it
+abbrev pub becomes : Becomes → Operation → Operation
+becomes (Ended fate accepted) = endedAs fate accepted
+becomes (Passed receiver) = passedTo receiver
+
+-- numbers can stand for that
+abbrev pub keepsFit : Becomes → Type 0
+keepsFit (Ended fate accepted) = accepted < 512
+keepsFit (Passed receiver) = receiver < mostTransactions
 
 -- ---- going through numbers
 

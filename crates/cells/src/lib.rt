@@ -9,9 +9,9 @@ ghost use mathlib.Core.Path.{_≡_};
 ghost use mathlib.Core.Bool.{true, _&&_};
 ghost use Prim.Native.Nat.{ℕ, _≤_, _<_, min};
 ghost use lib.Dec.{ltb};
-ghost use Rattle.ties.specs.Operations.{mostOperations, endedOne, endedOps};
+ghost use Rattle.ties.specs.Operations.{mostOperations, endedOne, endedOps, rewritten, allHeldBy};
 ghost use Rattle.ties.specs.Ties.{dirtyAt, dirty, mustWait};
-ghost use Rattle.cells.specs.Cells.{markIn, fateIn, markCode, fateCode, opIn, fits, opsIn, madeIn, givenIn, heldIn, readIn, Next, WholeOps};
+ghost use Rattle.cells.specs.Cells.{markIn, fateIn, markCode, fateCode, opIn, fits, opsIn, madeIn, givenIn, handedIn, becomes, keepsFit, heldIn, readIn, Next, WholeOps};
 
 fn mark_in(k: u32) -> Mark
     ensures { λ r. ⌜ r ≡ markIn k ⌝ }
@@ -161,17 +161,53 @@ fn next_held(ops: &[u32; Operation::MOST], from: usize, to: usize, t: usize) -> 
     to
 }
 
-// The active operations that t is responsible for end in this fate, and no others.
-pub fn ended(ops: &mut [u32; Operation::MOST], n: usize, t: usize, fate: Fate)
-    ensures { λ _. ⌜ opsIn (now (ops .exit)) n ≡ endedOps t fate (opsIn (now (ops .entry)) n) ⌝ }
+// What becomes of an operation: it ends in a fate, when so many operations were accepted, or another answers for it.
+enum Becomes {
+    Ended(Fate, u16),
+    Passed(u16),
+}
+
+impl Becomes {
+    fn of(self, op: Operation) -> Operation
+        ensures { λ r. ⌜ r ≡ becomes self op ⌝ }
+    {
+        match self {
+            Becomes::Ended(fate, accepted) => op.ended_as(fate, accepted),
+            Becomes::Passed(receiver) => op.passed_to(receiver),
+        }
+    }
+}
+
+// That becomes of the active operations that t is responsible for, and of no others.
+fn rewritten(ops: &mut [u32; Operation::MOST], n: usize, t: usize, how: Becomes)
+    requires { ⌜ keepsFit how ⌝ }
+    ensures { λ _. ⌜ opsIn (now (ops .exit)) n ≡ rewritten (allHeldBy t) (becomes how) (opsIn (now (ops .entry)) n) ⌝ }
 {
     let all = size(n);
     let mut i = next_held(ops, 0, all, t);
     while i < all {
         let op = op_in(ops[i]);
-        let after = op.ended_as(fate, all as u16);
+        let after = how.of(op);
         ops[i] = cell_of(after);
         i = next_held(ops, i + 1, all, t);
+    }
+}
+
+// The active operations that t is responsible for end in this fate, and no others.
+pub fn ended(ops: &mut [u32; Operation::MOST], n: usize, t: usize, fate: Fate)
+    ensures { λ _. ⌜ opsIn (now (ops .exit)) n ≡ endedOps t fate (opsIn (now (ops .entry)) n) ⌝ }
+{
+    let all = size(n);
+    rewritten(ops, n, t, Becomes::Ended(fate, all as u16));
+}
+
+// A receiver answers for all that t is at work on.
+pub fn handed(ops: &mut [u32; Operation::MOST], n: usize, t: usize, receiver: u16)
+    ensures { λ _. ⌜ opsIn (now (ops .exit)) n ≡ handedIn t receiver (opsIn (now (ops .entry)) n) ⌝ }
+{
+    let to = receiver as usize;
+    if to < Book::TRANSACTIONS {
+        rewritten(ops, n, t, Becomes::Passed(receiver));
     }
 }
 

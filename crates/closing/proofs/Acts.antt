@@ -8,31 +8,31 @@ use mathlib.Core.List.{List, _∷_, _++_}
 use lib.ListN.{length}
 use lib.Dec.{ltb, leb}
 use borrow.Author.Tests.{lt-ltb, le-ltb, le-leb, lt-leb}
-use Rattle.laws.proofs.Bools.{and-off, and-on}
+use Rattle.laws.proofs.Bools.{and-off, and-on, clash}
 use Rattle.laws.proofs.Decisions.{lt-or}
 use Rattle.terms.specs.Limits.{mostTransactions}
 use Rattle.terms.specs.declared.Verdict.the-variants.{Accepted}
 use Rattle.sets.specs.Reach.{at}
 use Rattle.tables.specs.Accepted.{Well}
-use Rattle.tables.specs.Sorts.{firstOf, stepsOf}
+use Rattle.tables.specs.Sorts.{firstOf, isPlain, sortOf, stepsOf}
 use Rattle.tables.specs.declared.Tables.{Tables}
 use Rattle.tables.proofs.SagaLaws.{owned-le, well-steps}
 use Rattle.judge.specs.Judge.{changeOf, judged, stateAfter}
 use Rattle.rules.specs.States.{entered, own, phaseOf}
 use Rattle.terms.specs.declared.Event.{Event}
-use Rattle.terms.specs.declared.Event.the-variants.{Abort, AbortOne, Begin, Commit, CommitOne, Delegate, Operation as Invoke}
+use Rattle.terms.specs.declared.Event.the-variants.{Abort, AbortOne, Begin, Commit, CommitOne, Delegate, Operation as Invoke, Spawn}
 use Rattle.rules.specs.declared.Phase.{Phase}
 use Rattle.rules.specs.declared.Phase.the-variants.{Aborted, Active, Committed}
 use Rattle.rules.specs.declared.State.{State}
 use Rattle.rules.specs.declared.Transaction.{Transaction}
 use Rattle.rules.proofs.PhaseLaws.{code}
-use Rattle.histories.proofs.Steps.{Ending, Entering, ending, entering, step}
+use Rattle.histories.proofs.Steps.{Ending, Entering, commit-ending, commit-enters, ending, entering, nobodys, spawning, step}
 use Rattle.ties.specs.declared.Fate.the-variants.{Aborted as FateAborted, Committed as FateCommitted}
-use Rattle.rules.proofs.StateLaws.{entered-other, entered-same}
+use Rattle.rules.proofs.StateLaws.{entered-other, entered-same, spawned-other}
 use Rattle.closing.specs.Demand.{commitsOf, mine}
 use Rattle.closing.proofs.Moves.{Inv, Move, Moved, Next, abort-saga, abort-step, begin-saga, begin-step, begin-undo, commit-saga, commit-step, commit-undo, movedAt}
 use Rattle.closing.proofs.OutstandingLaws.{moveEvent}
-use Rattle.closing.proofs.OwnEvents.{Moves, abort-own, begin-own, commit-own}
+use Rattle.closing.proofs.OwnEvents.{Moves, abort-own, begin-own, commit-own, own-not-plain}
 use Rattle.closing.proofs.Shapes.{Shape, Steps, Undos, back, closed, commitsIn, forward}
 
 -- ---- the commits of a saga's own among the events
@@ -71,11 +71,11 @@ move-commits f (abort-step i a b c) es h = refl
 
 -- ---- what an accepted event does to one saga
 
-pub data Acts (f n : ℕ) (s : State) (e : Event) : Type 0 where
-  moved : (m : Move n (own (s .transactions) f)) → Moved n (own (s .transactions) f) (own (stateAfter (changeOf e) s .transactions) f) m → e ≡ moveEvent f m → Acts f n s e
-  quiet : ((k : ℕ) → k < 2 * n → own (stateAfter (changeOf e) s .transactions) f k ≡ own (s .transactions) f k) →
+pub data Acts (tables : Tables) (f n : ℕ) (s : State) (e : Event) : Type 0 where
+  moved : (m : Move n (own (s .transactions) f)) → Moved n (own (s .transactions) f) (own (stateAfter (changeOf tables (s .transactions) e) s .transactions) f) m → e ≡ moveEvent f m → Acts tables f n s e
+  quiet : ((k : ℕ) → k < 2 * n → own (stateAfter (changeOf tables (s .transactions) e) s .transactions) f k ≡ own (s .transactions) f k) →
       ((es : List Event) → commitsOf f n (e ∷ es) ≡ commitsOf f n es) →
-      Acts f n s e
+      Acts tables f n s e
 
 module _ (tables : Tables) (well : Well tables) (i : ℕ) (listed : i < tables .sagas) (s : State) (full : length (s .transactions) ≡ mostTransactions) where
   abbrev f : ℕ
@@ -89,10 +89,10 @@ module _ (tables : Tables) (well : Well tables) (i : ℕ) (listed : i < tables .
 
   -- an event at t that is a move if t is one of the saga's own
   acts-at : (t c : ℕ) (p : Phase) (ev : ℕ → Event) → code p ≡ c →
-      (stateAfter (changeOf (ev t)) s .transactions ≡ entered p t (s .transactions)) →
+      (stateAfter (changeOf tables (s .transactions) (ev t)) s .transactions ≡ entered p t (s .transactions)) →
       ((k : ℕ) → k < 2 * n → f + k ≡ t → Moves f n (own (s .transactions) f) k c (ev t)) →
       (mine f n t ≡ false → (es : List Event) → commitsOf f n (ev t ∷ es) ≡ commitsOf f n es) →
-      Acts f n s (ev t)
+      Acts tables f n s (ev t)
   acts-at t c p ev cp ph mv cm =
       lt-or
       t
@@ -105,13 +105,13 @@ module _ (tables : Tables) (well : Well tables) (i : ℕ) (listed : i < tables .
       (λ b. here (t - f) (omega arith) (omega arith) (mv (t - f) (omega arith) (omega arith)))
       (λ b. away (λ k l. (λ q. omega arith))))
     where
-      away : ((k : ℕ) → k < 2 * n → f + k ≢ t) → Acts f n s (ev t)
+      away : ((k : ℕ) → k < 2 * n → f + k ≢ t) → Acts tables f n s (ev t)
       away h =
           quiet
           (λ k l. ap (λ (ts : List Transaction). phaseOf ts (f + k)) ph ∙ entered-other (s .transactions) t (f + k) p (h k l))
           (cm (mine-off f n t h))
 
-      here : (k : ℕ) → k < 2 * n → f + k ≡ t → Moves f n (own (s .transactions) f) k c (ev t) → Acts f n s (ev t)
+      here : (k : ℕ) → k < 2 * n → f + k ≡ t → Moves f n (own (s .transactions) f) k c (ev t) → Acts tables f n s (ev t)
       here k l q r =
           let low : t < length (s .transactions) = omega (arith, full, owned-le tables i, well .fits) in
           let e : f + movedAt (r .move) ≡ t = omega (arith, r .at) in
@@ -119,7 +119,7 @@ module _ (tables : Tables) (well : Well tables) (i : ℕ) (listed : i < tables .
           (r .move)
           (record {
             here =
-                ap (λ (x : ℕ). code (phaseOf (stateAfter (changeOf (ev t)) s .transactions) x)) e
+                ap (λ (x : ℕ). code (phaseOf (stateAfter (changeOf tables (s .transactions) (ev t)) s .transactions) x)) e
                 ∙ ap code (ap (λ (ts : List Transaction). phaseOf ts t) ph ∙ entered-same (s .transactions) t p low)
                 ∙ cp
                 ∙ sym (r .to);
@@ -127,7 +127,7 @@ module _ (tables : Tables) (well : Well tables) (i : ℕ) (listed : i < tables .
           })
           (r .event)
 
-  pub acts : (e : Event) → judged tables s e .verdict ≡ Accepted → Acts f n s e
+  pub acts : (e : Event) → judged tables s e .verdict ≡ Accepted → Acts tables f n s e
   unfolding stateAfter commitsOf
   acts (Begin t) v =
       acts-at
@@ -157,7 +157,7 @@ module _ (tables : Tables) (well : Well tables) (i : ℕ) (listed : i < tables .
       Committed
       Commit
       refl
-      refl
+      (commit-enters tables s t)
       (λ k l q.
       subst
       (λ (x : ℕ). Moves f n (own (s .transactions) f) k 2 (Commit x))
@@ -169,7 +169,7 @@ module _ (tables : Tables) (well : Well tables) (i : ℕ) (listed : i < tables .
       has-step
       k
       l
-      (subst (λ (x : ℕ). Ending tables s x Committed FateCommitted) (sym q) (ending tables s (step tables s (Commit t) v)))))
+      (subst (λ (x : ℕ). Ending tables s x Committed FateCommitted) (sym q) (commit-ending tables s t (nobodys tables s t (subst (λ (x : ℕ). isPlain (sortOf tables x) ≡ false) q (own-not-plain tables i s has-step k l))) v))))
       (λ h es. rw h)
   acts (Abort t) v =
       acts-at
@@ -196,6 +196,13 @@ module _ (tables : Tables) (well : Well tables) (i : ℕ) (listed : i < tables .
   acts (Delegate t r q) v = quiet (λ k l. refl) (λ es. refl)
   acts (CommitOne t q) v = quiet (λ k l. refl) (λ es. refl)
   acts (AbortOne t q) v = quiet (λ k l. refl) (λ es. refl)
+  acts (Spawn m c) v =
+      quiet
+      (λ k l.
+      ap (λ (x : Transaction). x .phase)
+      (spawned-other (s .transactions) m c (f + k)
+      (λ e. clash (ap (λ (x : ℕ). isPlain (sortOf tables x)) e ∙ spawning tables s (step tables s (Spawn m c) v) .child) (own-not-plain tables i s has-step k l))))
+      (λ es. refl)
 
 -- ---- phases that agree below 2n have the same invariant and the same history
 

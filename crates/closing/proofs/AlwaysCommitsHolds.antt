@@ -10,7 +10,7 @@ use Rattle.terms.specs.declared.Verdict.the-variants.{Accepted}
 use Rattle.judge.specs.Judge.{judged}
 use Rattle.tables.specs.Accepted.{Well}
 use Rattle.tables.specs.Reading.{tablesBy}
-use Rattle.tables.specs.Sorts.{isSaga, isUndo, sortOf}
+use Rattle.tables.specs.Sorts.{isPlain, isSaga, isUndo, sortOf}
 use Rattle.tables.specs.declared.Sort.{Sort}
 use Rattle.tables.specs.declared.Sort.the-variants.{Saga, Step, Undo, Plain, Unknown}
 use Rattle.tables.specs.declared.Tables.{Tables}
@@ -19,7 +19,7 @@ use Rattle.rules.specs.Rules.{activeUndo, commitBarred}
 use Rattle.rules.specs.States.{emptyState, isActive, phaseOf}
 use Rattle.rules.proofs.PhaseLaws.{active-is}
 use Rattle.histories.specs.Histories.{reached}
-use Rattle.histories.proofs.Steps.{ending, keeps-by, step}
+use Rattle.histories.proofs.Steps.{commit-ending, keeps-by, nobodys}
 use Rattle.closing.specs.Committing.{AlwaysCommits, Commits}
 use Rattle.closing.proofs.ClosingAccepted.{saga-commits, undo-commits}
 use Rattle.closing.proofs.UndoTies.{Tidy, saga-not-dirty, saga-off-rings, tidy-kept, tidy-start}
@@ -47,11 +47,14 @@ commits tables well es =
           by-saga (sortOf tables t) h
           (λ f n e. saga-commits tables well (reached tables es) tidy t f n e (active-is (phaseOf (reached tables es .transactions) t) a) (subst (λ (x : Sort). commitBarred (reached tables es .transactions) x ≡ false) e done));
       saga-free = λ t h. (saga-not-dirty tables (reached tables es) tidy t h, saga-off-rings tables (reached tables es) tidy t h);
-      undo-free = λ u a. let rule = ending tables (reached tables es) (step tables (reached tables es) (Commit u) (accepted u a)) .rule in (rule .2, rule .3);
+      undo-free = λ u a. let rule = commit-ending tables (reached tables es) u (nobodys tables (reached tables es) u (not-plain u a)) (accepted u a) .rule in (rule .2, rule .3);
     }
   where
     tidy : Tidy tables (reached tables es)
     tidy = keeps-by tables (Tidy tables) (tidy-kept tables) es emptyState (tidy-start tables)
+
+    not-plain : (u : ℕ) → activeUndo tables (reached tables es .transactions) u ≡ true → isPlain (sortOf tables u) ≡ false
+    not-plain u a = by-undo (sortOf tables u) (on-and (isUndo (sortOf tables u)) (isActive (phaseOf (reached tables es .transactions) u)) a .0) (λ f n j e. rw e)
 
     accepted : (u : ℕ) → activeUndo tables (reached tables es .transactions) u ≡ true → judged tables (reached tables es) (Commit u) .verdict ≡ Accepted
     accepted u a =

@@ -8,7 +8,7 @@ use mathlib.Core.List.{List, [], _∷_, _++_, append-nil}
 use lib.Dec.{leb, ltb}
 use borrow.Author.Tests.{le-leb, lt-ltb}
 use Rattle.laws.specs.Index.{highest}
-use Rattle.laws.proofs.Bools.{and-off, and-on, not-off, or-left, or-right}
+use Rattle.laws.proofs.Bools.{and-off, and-on, clash, not-off, or-left, or-right}
 use Rattle.laws.proofs.Decisions.{lt-or, same-or}
 use Rattle.laws.proofs.HighestLaws.{none-highest}
 use Rattle.terms.specs.declared.Event.{Event}
@@ -17,7 +17,7 @@ use Rattle.terms.specs.declared.Verdict.the-variants.{Accepted}
 use Rattle.ties.proofs.RingLaws.{ring-none}
 use Rattle.tables.specs.Accepted.{Well}
 use Rattle.tables.specs.Counts.{dependencyCount}
-use Rattle.tables.specs.Sorts.{firstOf, stepsOf}
+use Rattle.tables.specs.Sorts.{firstOf, isPlain, sortOf, stepsOf}
 use Rattle.tables.specs.declared.Tables.{Tables}
 use Rattle.tables.proofs.SagaLaws.{sort-step}
 use Rattle.rules.specs.Rules.{stepBegins, undone}
@@ -33,6 +33,8 @@ use Rattle.judge.proofs.EventLaws.{next-ok}
 use Rattle.judge.proofs.EventPromisesHold.{event-promises}
 use Rattle.histories.specs.Histories.{history, reached, run, taken}
 use Rattle.histories.proofs.AcceptedWhenHolds.{accepted-when}
+use Rattle.histories.proofs.Kin.{clerk-is, kin}
+use Rattle.histories.proofs.Steps.{nobodys}
 use Rattle.histories.proofs.RunLaws.{run-append, run-none, run-ok, taken-append, taken-none, taken-ok}
 use Rattle.closing.specs.Attained.{Attained, BothAttained}
 use Rattle.closing.specs.Closing.{activeStep, settled}
@@ -198,12 +200,14 @@ module _ (tables : Tables) (well : Well tables) (free : dependencyCount tables �
           (λ g. or-left (leb k 1) (isCommitted (P es (k - 1))) (le-leb k 1 g)))
   accepts es c (commit-step k a b z act) =
       let x = sort-step tables i k a b in
-      accepted-when tables es .commit (f + k) .1
+      let no-party : isPlain (sortOf tables (f + k)) ≡ false = rw x in
+      accepted-when tables es .commit (f + k) (sym (clerk-is tables (reached tables es) (kin tables es) (f + k)) ∙ nobodys tables (reached tables es) (f + k) no-party) .1
       (record {
         known = rw x;
         active = rw (of-active (P es k) z);
         saga = rw (x, of-active (P es 0) act);
         declared = none-declared false tables (reached tables es .transactions) (f + k) free;
+        children = λ d e. clash (kin tables es .plain d (f + k) e .1) no-party;
         clean = λ q l. absurd (omega (arith, c .none));
         off-rings = ring-none (reached tables es .ops) (f + k) (omega (arith, c .none));
       })
@@ -224,13 +228,13 @@ module _ (tables : Tables) (well : Well tables) (free : dependencyCount tables �
       let s = reached tables es in
       let e = moveEvent f m in
       let v = accepts es c m in
-      let after : reached tables (es ++ (e ∷ [])) ≡ stateAfter (changeOf e) s =
-      run-append tables es (e ∷ []) emptyState ∙ run-ok tables s e v [] ∙ run-none tables (stateAfter (changeOf e) s) in
+      let after : reached tables (es ++ (e ∷ [])) ≡ stateAfter (changeOf tables (s .transactions) e) s =
+      run-append tables es (e ∷ []) emptyState ∙ run-ok tables s e v [] ∙ run-none tables (stateAfter (changeOf tables (s .transactions) e) s) in
       let d : Moved n (P es) (P (es ++ (e ∷ []))) m =
       subst (λ (x : State). Moved n (P es) (own (x .transactions) f) m) (sym after) (does tables well i low s (fair tables well i low es .lasts .full) m) in
       record {
         clear = record {
-          all-taken = taken-append tables es (e ∷ []) emptyState ∙ ap₂ (λ (k l : List Event). k ++ l) (c .all-taken) (taken-ok tables s e v [] ∙ ap (λ (l : List Event). e ∷ l) (taken-none tables (stateAfter (changeOf e) s)));
+          all-taken = taken-append tables es (e ∷ []) emptyState ∙ ap₂ (λ (k l : List Event). k ++ l) (c .all-taken) (taken-ok tables s e v [] ∙ ap (λ (l : List Event). e ∷ l) (taken-none tables (stateAfter (changeOf tables (s .transactions) e) s)));
           none = ap (λ (x : State). x .ops .count) (after ∙ sym (next-ok tables s e v)) ∙ event-promises .frame tables s e .count (makes-none f m s) ∙ c .none;
         };
         put = record { here = d .here; other = d .other };

@@ -2,20 +2,21 @@
 use Prim.Native.Nat.{ℕ, _+_, _*_, _≤_, _<_, min}
 use mathlib.Core.Bool.{Bool, true, false, not, _&&_, _||_, false≢true}
 use native.Mathlib.Omega.{arith}
-use mathlib.Core.Path.{_≡_, refl, sym, ap, subst, _∙_}
+use mathlib.Core.Path.{_≡_, refl, sym, ap, subst, subst⁻¹, _∙_}
 use mathlib.Core.Logic.{inl, inr, ⊎-elim}
 use mathlib.Core.List.{List}
 use lib.ListN.{length}
 use lib.Dec.{leb, eqb}
 use borrow.Author.Tests.{leb-true, eqb-true, lt-ltb}
-use Rattle.laws.proofs.Bools.{and-off, and-on, bool-cases, clash, not-off, on-and}
+use Rattle.laws.specs.Lines.{Off}
+use Rattle.laws.proofs.Bools.{and-off, and-on, bool-cases, clash, not-off, on-and, or-off}
 use Rattle.laws.proofs.IndexLaws.{any-off}
 use Rattle.terms.specs.Limits.{mostDependencies, mostTransactions}
 use Rattle.terms.specs.declared.Verdict.the-variants.{Accepted}
 use Rattle.sets.specs.Reach.{at}
 use Rattle.tables.specs.Accepted.{Well}
 use Rattle.tables.specs.Dependencies.{dependencyAt, kindNumber, mayDepend}
-use Rattle.tables.specs.Sorts.{firstOf, numberOfAll, sortOf, stepsOf}
+use Rattle.tables.specs.Sorts.{firstOf, isPlain, numberOfAll, sortOf, stepsOf}
 use Rattle.tables.specs.declared.Kind.{Kind}
 use Rattle.tables.specs.declared.Kind.the-variants.{Abort as AbortKind, Begin as BeginKind, BeginOnAbort, BeginOnCommit, Commit as CommitKind, Serial, WeakAbort}
 use Rattle.tables.specs.declared.Sort.{Sort}
@@ -23,7 +24,7 @@ use Rattle.tables.specs.declared.Sort.the-variants.{Saga as SagaItself, Step, U
 use Rattle.tables.specs.declared.Tables.{Tables}
 use Rattle.tables.proofs.DependencyLaws.{on-allowed}
 use Rattle.tables.proofs.SagaLaws.{owned-le, sort-step, sort-undo, well-steps}
-use Rattle.judge.specs.Judge.{changeOf, judged, stateAfter}
+use Rattle.judge.specs.Judge.{awaitsChild, changeOf, commitLines, commitLinesUnder, judged, stateAfter}
 use Rattle.rules.specs.Rules.{barredBy, commitBarred, commitBars, declaredBars, kindBars, undoBegins, undone}
 use Rattle.rules.specs.States.{entered, isAborted, isActive, isCommitted, own, phaseOf}
 use Rattle.terms.specs.declared.Event.the-variants.{Abort, Begin, Commit}
@@ -33,6 +34,7 @@ use Rattle.rules.specs.declared.State.{State}
 use Rattle.rules.specs.declared.Transaction.{Transaction}
 use Rattle.rules.proofs.PhaseLaws.{code, committed-is, not-active, not-committed, of-aborted, of-active, of-committed, of-idle}
 use Rattle.judge.proofs.EventLaws.{off-lines}
+use Rattle.histories.proofs.Steps.{commit-enters, nobodys}
 use Rattle.rules.proofs.StateLaws.{entered-other, entered-same}
 use Rattle.closing.proofs.Moves.{Move, Moved, abort-saga, abort-step, begin-saga, begin-step, begin-undo, commit-saga, commit-step, commit-undo, movedAt, movedTo}
 use Rattle.closing.proofs.OutstandingLaws.{Safe, moveEvent}
@@ -95,17 +97,25 @@ module _ (tables : Tables) (well : Well tables) (s : State) where
   alone-undo : Tidy tables s → (t f n j : ℕ) → sortOf tables t ≡ Undo f n j → Alone s t
   alone-undo tidy t f n j e p q r w = ⊎-elim inl (λ same. inr (same ∙ r)) (tidy .clear p q (rw (ap (sortOf tables) r ∙ e)) w)
 
+  -- whoever is not plain is nobody's child, and has none
+  own-commits : (t : ℕ) → isPlain (sortOf tables t) ≡ false → Off (commitLines tables (s .transactions) (s .ops) t) → judged tables s (Commit t) .verdict ≡ Accepted
+  own-commits t e off = off-lines tables s (Commit t) (subst⁻¹ Off (ap (commitLinesUnder tables (s .transactions) (s .ops) t) (nobodys tables s t e)) off)
+
+  unbarred : (t : ℕ) → isPlain (sortOf tables t) ≡ false → declaredBars false tables (s .transactions) t ≡ false
+      → (declaredBars false tables (s .transactions) t || awaitsChild tables (s .transactions) t) ≡ false
+  unbarred t e d = or-off (declaredBars false tables (s .transactions) t) (awaitsChild tables (s .transactions) t) d (rw e)
+
   -- an active undo commits
   pub undo-commits : Tidy tables s → (t f n j : ℕ) → sortOf tables t ≡ Undo f n j → code (phaseOf (s .transactions) t) ≡ 1 → judged tables s (Commit t) .verdict ≡ Accepted
   undo-commits tidy t f n j x a =
-      off-lines tables s (Commit t) (
+      own-commits t (rw x) (
         rw x,
         (
           rw (of-active (phaseOf (s .transactions) t) a),
           (
             rw x,
             (
-              undo-free false t f n j x,
+              unbarred t (rw x) (undo-free false t f n j x),
               (
                 not-dirty tables s t (tidy .off-rings .ends) (rw x) a (alone-undo tidy t f n j x),
                 (tidy .off-rings .free t (rw (x, of-active (phaseOf (s .transactions) t) a)), tt),
@@ -119,14 +129,14 @@ module _ (tables : Tables) (well : Well tables) (s : State) where
   pub saga-commits : Tidy tables s → (t f n : ℕ) → sortOf tables t ≡ SagaItself f n → code (phaseOf (s .transactions) t) ≡ 1
       → commitBarred (s .transactions) (SagaItself f n) ≡ false → judged tables s (Commit t) .verdict ≡ Accepted
   saga-commits tidy t f n x a done =
-      off-lines tables s (Commit t) (
+      own-commits t (rw x) (
         rw x,
         (
           rw (of-active (phaseOf (s .transactions) t) a),
           (
             rw x done,
             (
-              saga-free t f n x,
+              unbarred t (rw x) (saga-free t f n x),
               (
                 not-dirty tables s t (tidy .off-rings .ends) (rw x) a (alone-saga tidy t f n x),
                 (saga-off-rings tables s tidy t (rw x), tt),
@@ -224,13 +234,13 @@ module _ (tables : Tables) (well : Well tables) (i : ℕ) (listed : i < tables .
       low : t < length (s .transactions)
       low = omega (arith, full, owned-le tables i, well .fits)
 
-  pub does : (m : Move n₁ (own (s .transactions) f₁)) → Moved n₁ (own (s .transactions) f₁) (own (stateAfter (changeOf (moveEvent f₁ m)) s .transactions) f₁) m
+  pub does : (m : Move n₁ (own (s .transactions) f₁)) → Moved n₁ (own (s .transactions) f₁) (own (stateAfter (changeOf tables (s .transactions) (moveEvent f₁ m)) s .transactions) f₁) m
   unfolding stateAfter
-  does (begin-saga a) = does-at (begin-saga a) (stateAfter (changeOf (Begin f₁)) s) f₁ Active (omega (arith, well-steps tables well i listed .0)) (omega arith) refl refl
-  does (begin-step k a b c d e) = does-at (begin-step k a b c d e) (stateAfter (changeOf (Begin (f₁ + k))) s) (f₁ + k) Active (omega arith) refl refl refl
-  does (begin-undo j a b c d e w g) = does-at (begin-undo j a b c d e w g) (stateAfter (changeOf (Begin (f₁ + (n₁ + j)))) s) (f₁ + (n₁ + j)) Active (omega arith) refl refl refl
-  does (commit-saga a b) = does-at (commit-saga a b) (stateAfter (changeOf (Commit f₁)) s) f₁ Committed (omega (arith, well-steps tables well i listed .0)) (omega arith) refl refl
-  does (commit-step k a b c d) = does-at (commit-step k a b c d) (stateAfter (changeOf (Commit (f₁ + k))) s) (f₁ + k) Committed (omega arith) refl refl refl
-  does (commit-undo j a b c) = does-at (commit-undo j a b c) (stateAfter (changeOf (Commit (f₁ + (n₁ + j)))) s) (f₁ + (n₁ + j)) Committed (omega arith) refl refl refl
-  does (abort-saga a b) = does-at (abort-saga a b) (stateAfter (changeOf (Abort f₁)) s) f₁ Aborted (omega (arith, well-steps tables well i listed .0)) (omega arith) refl refl
-  does (abort-step k a b c) = does-at (abort-step k a b c) (stateAfter (changeOf (Abort (f₁ + k))) s) (f₁ + k) Aborted (omega arith) refl refl refl
+  does (begin-saga a) = does-at (begin-saga a) (stateAfter (changeOf tables (s .transactions) (Begin f₁)) s) f₁ Active (omega (arith, well-steps tables well i listed .0)) (omega arith) refl refl
+  does (begin-step k a b c d e) = does-at (begin-step k a b c d e) (stateAfter (changeOf tables (s .transactions) (Begin (f₁ + k))) s) (f₁ + k) Active (omega arith) refl refl refl
+  does (begin-undo j a b c d e w g) = does-at (begin-undo j a b c d e w g) (stateAfter (changeOf tables (s .transactions) (Begin (f₁ + (n₁ + j)))) s) (f₁ + (n₁ + j)) Active (omega arith) refl refl refl
+  does (commit-saga a b) = does-at (commit-saga a b) (stateAfter (changeOf tables (s .transactions) (Commit f₁)) s) f₁ Committed (omega (arith, well-steps tables well i listed .0)) (omega arith) refl (commit-enters tables s f₁)
+  does (commit-step k a b c d) = does-at (commit-step k a b c d) (stateAfter (changeOf tables (s .transactions) (Commit (f₁ + k))) s) (f₁ + k) Committed (omega arith) refl refl (commit-enters tables s (f₁ + k))
+  does (commit-undo j a b c) = does-at (commit-undo j a b c) (stateAfter (changeOf tables (s .transactions) (Commit (f₁ + (n₁ + j)))) s) (f₁ + (n₁ + j)) Committed (omega arith) refl refl (commit-enters tables s (f₁ + (n₁ + j)))
+  does (abort-saga a b) = does-at (abort-saga a b) (stateAfter (changeOf tables (s .transactions) (Abort f₁)) s) f₁ Aborted (omega (arith, well-steps tables well i listed .0)) (omega arith) refl refl
+  does (abort-step k a b c) = does-at (abort-step k a b c) (stateAfter (changeOf tables (s .transactions) (Abort (f₁ + k))) s) (f₁ + k) Aborted (omega arith) refl refl refl

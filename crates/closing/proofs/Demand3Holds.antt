@@ -159,8 +159,8 @@ module _ (tables : Tables) (well : Well tables) (i : ℕ) (low : i < tables .sag
   unfolding settled
   settled-is s = rw is-listed
 
-  pub good-kept : (s : State) (e : Event) → Good tables i s → judged tables s e .verdict ≡ Accepted → Good tables i (stateAfter (changeOf e) s)
-  good-kept s e h v = record { fair = fair-kept tables well i low s e (h .fair) v; tidy = tidy-kept tables s (changeOf e) (h .tidy) (step tables s e v) }
+  pub good-kept : (s : State) (e : Event) → Good tables i s → judged tables s e .verdict ≡ Accepted → Good tables i (stateAfter (changeOf tables (s .transactions) e) s)
+  good-kept s e h v = record { fair = fair-kept tables well i low s e (h .fair) v; tidy = tidy-kept tables s (changeOf tables (s .transactions) e) (h .tidy) (step tables s e v) }
 
   pub good-start : Good tables i emptyState
   good-start = record { fair = fair-start tables well i low; tidy = tidy-start tables }
@@ -178,11 +178,11 @@ module _ (tables : Tables) (well : Well tables) (i : ℕ) (low : i < tables .sag
       by-verdict tables s e
       (λ v.
       ap (λ (x : State). ownOf tables x i k) (run-ok tables s e v fs)
-      ∙ alike fs (stateAfter (changeOf e) s) (good-kept s e h v) (b .1) k l
+      ∙ alike fs (stateAfter (changeOf tables (s .transactions) e) s) (good-kept s e h v) (b .1) k l
       ∙ go (acts tables well i low s (h .fair .lasts .full) e v) (b .0))
       (λ x v. ap (λ (x : State). ownOf tables x i k) (run-no tables s e x v fs) ∙ alike fs s h (b .1) k l)
     where
-      go : Acts f n s e → foreign f n e ≡ true → ownOf tables (stateAfter (changeOf e) s) i k ≡ ownOf tables s i k
+      go : Acts tables f n s e → foreign f n e ≡ true → ownOf tables (stateAfter (changeOf tables (s .transactions) e) s) i k ≡ ownOf tables s i k
       go (moved m d q) t =
           clash (rw q at t) (move-foreign f m f n ∙ not-off (mine f n (f + movedAt m)) (mine-on f n (movedAt m) (own-low m has-step)))
       go (quiet same c) t = same k l
@@ -204,14 +204,14 @@ module _ (tables : Tables) (well : Well tables) (i : ℕ) (low : i < tables .sag
       let m = c .move in
       let v = accept tables well s (h .tidy) i low m (c .safe) in
       let e = moveEvent f m in
-      let falls = c .falls (ownOf tables (stateAfter (changeOf e) s) i) (does tables well i low s (h .fair .lasts .full) m) in
+      let falls = c .falls (ownOf tables (stateAfter (changeOf tables (s .transactions) e) s) i) (does tables well i low s (h .fair .lasts .full) m) in
       record {
         event = e;
         named = ap eventOf (close-is s) ∙ c .event;
         accepted = v;
         lowers =
             ap (λ (x : State). outstanding tables x i + 1) (next-ok tables s e v)
-            ∙ ap (λ (k : ℕ). k + 1) (out-is (stateAfter (changeOf e) s))
+            ∙ ap (λ (k : ℕ). k + 1) (out-is (stateAfter (changeOf tables (s .transactions) e) s))
             ∙ falls
             ∙ sym (out-is s);
         at = movedAt m;

@@ -40,12 +40,12 @@ module _ (tables : Tables) (well : Well tables) (i : ℕ) (listed : i < tables .
   has-step = well-steps tables well i listed .0
 
   abbrev after : State → Event → State
-  after s e = stateAfter (changeOf e) s
+  after s e = stateAfter (changeOf tables (s .transactions) e) s
 
   pub fair-kept : (s : State) (e : Event) → Fair f n s → judged tables s e .verdict ≡ Accepted → Fair f n (after s e)
-  fair-kept s e h v = record { lasts = lasting-kept tables s (changeOf e) (h .lasts) (step tables s e v); inv = go (acts tables well i listed s (h .lasts .full) e v) }
+  fair-kept s e h v = record { lasts = lasting-kept tables s (changeOf tables (s .transactions) e) (h .lasts) (step tables s e v); inv = go (acts tables well i listed s (h .lasts .full) e v) }
     where
-      go : Acts f n s e → Inv n (own (after s e .transactions) f)
+      go : Acts tables f n s e → Inv n (own (after s e .transactions) f)
       go (moved m d q) = keep n (own (s .transactions) f) (own (after s e .transactions) f) m d has-step (h .inv)
       go (quiet same c) = inv-same f n (own (s .transactions) f) (own (after s e .transactions) f) same has-step (h .inv)
 
@@ -61,7 +61,7 @@ module _ (tables : Tables) (well : Well tables) (i : ℕ) (listed : i < tables .
       → (H′ : List ℕ) × Shape f n (own (after s e .transactions) f) H′ × (H ++ commitsOf f n (e ∷ es) ≡ H′ ++ commitsOf f n es)
   shape-next s e es H h v sh = go (acts tables well i listed s (h .lasts .full) e v)
     where
-      go : Acts f n s e → (H′ : List ℕ) × Shape f n (own (after s e .transactions) f) H′ × (H ++ commitsOf f n (e ∷ es) ≡ H′ ++ commitsOf f n es)
+      go : Acts tables f n s e → (H′ : List ℕ) × Shape f n (own (after s e .transactions) f) H′ × (H ++ commitsOf f n (e ∷ es) ≡ H′ ++ commitsOf f n es)
       go (moved m d q) = (
         H ++ commitsIn f m,
         onward f n (own (s .transactions) f) (own (after s e .transactions) f) m d has-step (h .inv) H sh,

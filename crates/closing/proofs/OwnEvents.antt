@@ -2,13 +2,13 @@
 use Prim.Native.Nat.{ℕ, _+_, _-_, _*_, _≤_, _<_}
 use native.Mathlib.Omega.{arith}
 use mathlib.Core.Path.{_≡_, refl, ap, _∙_}
-use mathlib.Core.Bool.{not, _||_}
+use mathlib.Core.Bool.{false, not, _||_}
 use lib.Dec.{ltb, leb}
 use borrow.Author.Tests.{ltb-true, lt-leb}
 use Rattle.laws.proofs.Bools.{clash, off-not, on-and, on-not, or-rest}
 use Rattle.laws.proofs.Decisions.{by-place}
 use Rattle.sets.specs.Reach.{at}
-use Rattle.tables.specs.Sorts.{firstOf, sortOf, stepsOf}
+use Rattle.tables.specs.Sorts.{firstOf, isPlain, sortOf, stepsOf}
 use Rattle.tables.specs.declared.Sort.the-variants.{Saga as SagaItself}
 use Rattle.tables.specs.declared.Tables.{Tables}
 use Rattle.tables.proofs.SagaLaws.{sort-saga, sort-step, sort-undo}
@@ -48,6 +48,11 @@ module _ (tables : Tables) (i : ℕ) (s : State) where
   -- S is the first of its own
   pub sort-first : 1 ≤ n → sortOf tables (f + 0) ≡ SagaItself f n
   sort-first h = ap (sortOf tables) f0 ∙ sort-saga tables i h
+
+  -- none of them is plain
+  pub own-not-plain : 1 ≤ n → (k : ℕ) → k < 2 * n → isPlain (sortOf tables (f + k)) ≡ false
+  own-not-plain 1≤n =
+      by-place (λ k. isPlain (sortOf tables (f + k)) ≡ false) n (λ z. rw (sort-first 1≤n)) (λ k a b. rw (sort-step tables i k a b)) (λ j a b. rw (sort-undo tables i j a b))
 
   pub begin-own : 1 ≤ n → (k : ℕ) → k < 2 * n → Entering tables s (f + k) → Moves f n P k 1 (Begin (f + k))
   begin-own 1≤n =

@@ -103,16 +103,16 @@ module _ (tables : Tables) (well : Well tables) (i : ℕ) (low : i < tables .sag
     fair : Fair f n s
     rests : settledOf n (own (s .transactions) f) ≡ true
 
-  rests-kept : (s : State) (e : Event) → Rests s → judged tables s e .verdict ≡ Accepted → Rests (stateAfter (changeOf e) s)
+  rests-kept : (s : State) (e : Event) → Rests s → judged tables s e .verdict ≡ Accepted → Rests (stateAfter (changeOf tables (s .transactions) e) s)
   rests-kept s e h v = record { fair = fair-kept tables well i low s e (h .fair) v; rests = go (acts tables well i low s (h .fair .lasts .full) e v) }
     where
       P : ℕ → Phase
       P = own (s .transactions) f
 
       P′ : ℕ → Phase
-      P′ = own (stateAfter (changeOf e) s .transactions) f
+      P′ = own (stateAfter (changeOf tables (s .transactions) e) s .transactions) f
 
-      go : Acts f n s e → settledOf n P′ ≡ true
+      go : Acts tables f n s e → settledOf n P′ ≡ true
       go (quiet same c) = settled-same f n P P′ same (has-step tables well i low) ∙ h .rests
       go (moved m d q) =
           by-saga n P (h .rests)

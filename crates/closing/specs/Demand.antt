@@ -16,7 +16,7 @@ use Rattle.tables.specs.declared.Tables.{Tables}
 use Rattle.tables.specs.declared.TablesAnswer.the-variants.{Read}
 use Rattle.rules.specs.declared.Phase.the-variants.{Idle}
 use Rattle.terms.specs.declared.Event.{Event}
-use Rattle.terms.specs.declared.Event.the-variants.{Begin, Commit, Abort, Operation as Invoke, Delegate, CommitOne, AbortOne}
+use Rattle.terms.specs.declared.Event.the-variants.{Begin, Commit, Abort, Operation as Invoke, Delegate, CommitOne, AbortOne, Spawn}
 use Rattle.rules.specs.declared.State.{State}
 use Rattle.judge.specs.Judge.{judged}
 use Rattle.histories.specs.Histories.{run, reached, history}
@@ -60,6 +60,7 @@ commitsOf f n (Invoke t o m ∷ es) = commitsOf f n es
 commitsOf f n (Delegate t r q ∷ es) = commitsOf f n es
 commitsOf f n (CommitOne t q ∷ es) = commitsOf f n es
 commitsOf f n (AbortOne t q ∷ es) = commitsOf f n es
+commitsOf f n (Spawn m c ∷ es) = commitsOf f n es
 
 -- ---- others' events: any but a begin, commit or abort of the saga or its own steps and undos
 
@@ -71,6 +72,8 @@ foreign f n (Invoke t o m) = true
 foreign f n (Delegate t r q) = true
 foreign f n (CommitOne t q) = true
 foreign f n (AbortOne t q) = true
+-- a spawn begins the child
+foreign f n (Spawn m c) = not (mine f n c)
 
 unfoldable pub allForeign : ℕ → ℕ → List Event → Bool
 allForeign f n [] = true

@@ -21,9 +21,9 @@ use Rattle.number.specs.declared.Edition.{Edition}
 use Rattle.number.specs.declared.Edition.the-variants.{First, Second}
 use Rattle.tables.specs.Sorts.{numberOfAll}
 use Rattle.sheet.specs.Sheet.{Holds}
-use Rattle.rules.specs.Lent.{transactionsIn}
+use Rattle.rules.specs.Lent.{parentFits, transactionsIn}
 use Rattle.tables.specs.declared.Tables.{Tables}
-use Rattle.rules.specs.States.{emptyState}
+use Rattle.rules.specs.States.{emptyState, parentOf}
 use Rattle.rules.specs.declared.State.{State}
 use Rattle.judge.specs.Judge.{judged, rulingOf}
 use Rattle.judge.specs.declared.Ruling.{Ruling}
@@ -39,7 +39,7 @@ use Rattle.book.proofs.ReadLaws.{verdict-cases}
 use Rattle.desk.specs.Desk.{DeskStands, askedAfter, askedBy, countsBy, countsOf, deskOf, editionIn, eventThen, more, namedBy, namedNumber, namedThen, passedOver, takenAfter, takenBy, thenBy}
 use Rattle.desk.specs.declared.Named.{Named}
 use Rattle.desk.specs.Ways.{judged as judgedIn}
-use Rattle.desk.proofs.FitLaws.{reached-few, reached-fits, reached-whole}
+use Rattle.desk.proofs.FitLaws.{reached-few, reached-fits, reached-parents, reached-whole}
 use Rattle.desk.proofs.OriginLaws.{Origin, origin}
 
 -- ---- a reading that was ended, and one that was not
@@ -215,7 +215,7 @@ module _ (j : Judgement) (sheet ts ops ws steps counts : List ℕ) (st : DeskSta
 
 module _ (way : ℕ) (s : List ℕ) (r : Judgement) (read : r ≡ judgedIn way s) (sheet ts ops : List ℕ)
     (held : numberOfAll (r .tables) ≤ mostTransactions → Holds (r .tables) sheet)
-    (all : transactionsIn ts ≡ r .state .transactions)
+    (all : ((t : ℕ) → parentFits (parentOf (r .state .transactions) t) ≡ true) → transactionsIn ts ≡ r .state .transactions)
     (made : WholeOps (r .state .ops) → r .state .ops .count ≤ mostOperations → ((q : ℕ) → fits (opAt (r .state .ops) q) ≡ true) → opsIn ops (r .state .ops .count) ≡ r .state .ops)
     (left : ℕ) (sum : left ≡ leftIn (r .tables) (r .state)) (n : ℕ) (number : n ≡ verdictNumber (r .answer)) (ed : ℕ) (named : ed ≡ editionNumber (r .edition)) where
   from : Origin r
@@ -233,12 +233,15 @@ module _ (way : ℕ) (s : List ℕ) (r : Judgement) (read : r ≡ judgedIn way s
   fit : (q : ℕ) → fits (opAt (r .state .ops) q) ≡ true
   fit q = ap (λ (x : State). fits (opAt (x .ops) q)) led ∙ reached-fits (r .tables) (from .1 .0) q
 
+  parents : (t : ℕ) → parentFits (parentOf (r .state .transactions) t) ≡ true
+  parents t = ap (λ (x : State). parentFits (parentOf (x .transactions) t)) led ∙ reached-parents (r .tables) (from .1 .0) t
+
   stands : DeskStands r (deskOf sheet ts ops (r .records) (r .tables .steps) (r .state .ops .count ∷ r .events ∷ r .refused ∷ left ∷ n ∷ r .place ∷ r .tables .sagas ∷ r .tables .plain ∷ ed ∷ []))
   unfolding countsOf
   stands =
       record {
         tables = held (from .0 .fits);
-        state = λ i. record { transactions = all i; ops = made (whole .1) few fit i };
+        state = λ i. record { transactions = all parents i; ops = made (whole .1) few fit i };
         records = refl;
         steps = refl;
         counts = rw (sum, number, named);

@@ -29,7 +29,8 @@ ghost use Rattle.terms.specs.Refusals.{verdictNumber};
 ghost use Rattle.terms.specs.declared.Verdict.the-variants.{Accepted};
 ghost use Rattle.ties.specs.Operations.{mostOperations, opAt};
 ghost use Rattle.cells.specs.Cells.{WholeOps, fits, markCode, opsIn};
-ghost use Rattle.rules.specs.Lent.{phaseCode, transactionsIn};
+ghost use Rattle.rules.specs.Lent.{parentFits, phaseCode, transactionsIn};
+ghost use Rattle.rules.specs.States.{parentOf};
 ghost use Rattle.judge.specs.Judge.{judged as judgedEvent};
 ghost use Rattle.replay.specs.Replay.{copyAnswer, copyRoom, orderOf};
 ghost use Rattle.report.specs.Report.{reportOf};
@@ -114,14 +115,13 @@ fn put_transactions(
     all: [Transaction; Book::TRANSACTIONS],
     transactions: &mut [u32; Book::TRANSACTIONS],
 )
-    ensures { λ _. ⌜ transactionsIn (now (transactions .exit)) ≡ all ⌝ }
+    ensures { λ _. ⌜ (((t : ℕ) → parentFits (parentOf all t) ≡ true) → transactionsIn (now (transactions .exit)) ≡ all) ⌝ }
 {
     *transactions = [0u32; Book::TRANSACTIONS];
     let mut t: usize = 0;
     while t < Book::TRANSACTIONS {
         let x = all[t];
-        let phase = x.phase;
-        rules::enters(transactions, t, phase);
+        rules::put(transactions, t, x);
         t += 1;
     }
 }
@@ -239,6 +239,7 @@ fn named_by(edition: Edition, code: u64, a: usize, b: usize, c: usize, d: u64) -
         5 => Named::Says(Event::Delegate(a, b, c), 0),
         6 => Named::Says(Event::CommitOne(a, b), 0),
         7 => Named::Says(Event::AbortOne(a, b), 0),
+        8 => Named::Says(Event::Spawn(a, b), 0),
         _ => Named::NoCode,
     }
 }

@@ -14,15 +14,14 @@ use Rattle.laws.proofs.Decisions.{lt-or}
 use Rattle.laws.proofs.IndexLaws.{any-elim, any-off, off-any}
 use Rattle.terms.specs.Limits.{mostObjects, mostTransactions}
 use Rattle.terms.specs.declared.Event.{Event}
-use Rattle.terms.specs.declared.Event.the-variants.{Abort, Begin, Commit, Delegate, Operation as Invoke}
+use Rattle.terms.specs.declared.Event.the-variants.{Abort, Begin, Delegate, Operation as Invoke}
 use Rattle.terms.specs.declared.Mark.{Mark}
-use Rattle.terms.specs.declared.Refusal.the-variants.{DirtyRead, MustWait, OnRing, UndoOnRing}
+use Rattle.terms.specs.declared.Refusal.the-variants.{MustWait, UndoOnRing}
 use Rattle.terms.specs.declared.Verdict.the-variants.{Accepted, Refused}
 use Rattle.ties.specs.Operations.{isAborted, isActive as isActiveOperation, mostOperations, newOp, opAt, size}
-use Rattle.ties.specs.Ties.{before, beforeGiven, beforeMade, conflict, dirty, dirtyAt, isGone, mustWait, onRing, opWith, ringWith, waitsFor}
+use Rattle.ties.specs.Ties.{before, beforeGiven, beforeMade, conflict, isGone, mustWait, opWith, ringWith, waitsFor}
 use Rattle.ties.specs.declared.Operation.{Operation}
 use Rattle.ties.proofs.TieLaws.{Between, Counted, between, ties-on}
-use Rattle.ties.proofs.DirtyLaws.{clean-dirty, dirty-by, dirty-clean, read-on, read-parts}
 use Rattle.tables.specs.Counts.{objectCount}
 use Rattle.tables.specs.Sorts.{isKnown, isSaga, isUndo, sortOf}
 use Rattle.tables.specs.declared.Tables.{Tables}
@@ -32,9 +31,10 @@ use Rattle.rules.specs.declared.State.{State}
 use Rattle.judge.specs.Judge.{judged, lines, noParty, unknown, unknownObject}
 use Rattle.judge.proofs.RuleLaws.{operation-known}
 use Rattle.histories.specs.Histories.{reached}
-use Rattle.histories.specs.May.{AcceptedWhen, CouldCommit, CouldDelegate, CouldInvoke, Invoker, MayAbort, MayBegin, MayCommit, MayDelegate, MayInvoke, Meets, NewPair, Party, ReadsDirty, RingsGiven, Waited}
+use Rattle.histories.specs.May.{AcceptedWhen, CouldDelegate, CouldInvoke, Invoker, MayAbort, MayBegin, MayDelegate, MayInvoke, Meets, NewPair, Party, RingsGiven, Waited}
 use Rattle.histories.specs.Promises.{UndoRinged}
 use Rattle.judge.proofs.EventLaws.{lines-off, off-lines, only-line}
+use Rattle.histories.proofs.CommitsWhen.{commit-dirty, commit-rings, commit-when, hand-clean, hand-rings, hand-when, may-spawn, spawn-may}
 use Rattle.histories.proofs.Orders.{bounded, stays-in}
 use Rattle.histories.proofs.UndoRings.{rings-given, rings-made}
 
@@ -197,99 +197,6 @@ module _ (tables : Tables) (s : State) where
     may-abort may =
         off-lines tables s (Abort t)
         (not-off (isKnown (sortOf tables t)) (may .known), (may .no-undo, (not-off (isActive (phaseOf (s .transactions) t)) (may .active), (may .saga, tt))))
-
-    -- ---- a commit
-
-    commit-may : judged tables s (Commit t) .verdict ≡ Accepted → MayCommit tables s t
-    unfolding dirty
-    commit-may v =
-        let off = lines-off tables s (Commit t) v in
-        record {
-          known = off-not (isKnown (sortOf tables t)) (off .0);
-          active = off-not (isActive (phaseOf (s .transactions) t)) (off .1 .0);
-          saga = off .1 .1 .0;
-          declared = off .1 .1 .1 .0;
-          clean = λ q l own read there.
-              dirty-clean (s .ops) t q (off-any (size (s .ops)) (dirtyAt (s .ops) t) (off .1 .1 .1 .1 .0) q l) (read-on t (opAt (s .ops) q) own read there);
-          off-rings = off .1 .1 .1 .1 .1 .0;
-        }
-
-    may-commit : MayCommit tables s t → judged tables s (Commit t) .verdict ≡ Accepted
-    unfolding dirty
-    may-commit may =
-        off-lines tables s (Commit t) (
-          not-off (isKnown (sortOf tables t)) (may .known),
-          (
-            not-off (isActive (phaseOf (s .transactions) t)) (may .active),
-            (
-              may .saga,
-              (
-                may .declared,
-                (
-                  any-off (size (s .ops)) (dirtyAt (s .ops) t)
-                      (λ q l. clean-dirty (s .ops) t q l (λ r. let x = read-parts t (opAt (s .ops) q) r in may .clean q l (x .0) (x .1 .0) (x .1 .1))),
-                  (may .off-rings, tt),
-                ),
-              ),
-            ),
-          ),
-        )
-
-    could-commit : Off (take 4 (lines tables s (Commit t))) → CouldCommit tables s t
-    could-commit off =
-        record {
-          known = off-not (isKnown (sortOf tables t)) (off .0);
-          active = off-not (isActive (phaseOf (s .transactions) t)) (off .1 .0);
-          saga = off .1 .1 .0;
-          declared = off .1 .1 .1 .0;
-        }
-
-    commit-could : CouldCommit tables s t → Off (take 4 (lines tables s (Commit t)))
-    commit-could c = (not-off (isKnown (sortOf tables t)) (c .known), (not-off (isActive (phaseOf (s .transactions) t)) (c .active), (c .saga, (c .declared, tt))))
-
-    dirty-on : dirty (s .ops) t ≡ true → ReadsDirty (s .ops) t
-    unfolding dirty
-    dirty-on on =
-        let w = any-elim (size (s .ops)) (dirtyAt (s .ops) t) on in
-        let d = dirty-by (s .ops) t (w .0) (w .1) (w .2) in
-        let x = read-parts t (opAt (s .ops) (w .0)) (d .0) in
-        record {
-          q = w .0;
-          accepted = w .1;
-          own = x .0;
-          read = x .1 .0;
-          there = x .1 .1;
-          p = d .1 .0;
-          write = d .1 .1;
-          tie = d .1 .2;
-          unclean = d .1 .3;
-        }
-
-    on-dirty : ReadsDirty (s .ops) t → dirty (s .ops) t ≡ true
-    unfolding dirty
-    on-dirty d =
-        bool-cases (dirty (s .ops) t) (λ on. on)
-        (λ off.
-        clash
-        (dirty-clean (s .ops) t (d .q) (off-any (size (s .ops)) (dirtyAt (s .ops) t) off (d .q) (d .accepted)) (read-on t (opAt (s .ops) (d .q)) (d .own) (d .read) (d .there)) (d .p) (d .write) (d .tie))
-        (d .unclean))
-
-    commit-dirty : (judged tables s (Commit t) .verdict ≡ Refused DirtyRead) ↔ (CouldCommit tables s t × ReadsDirty (s .ops) t)
-    commit-dirty =
-        let given = only-line tables s (Commit t) DirtyRead (take 4 (lines tables s (Commit t))) (drop 5 (lines tables s (Commit t))) (dirty (s .ops) t) refl refl refl in
-        (λ v. let w = given .0 v in (could-commit (w .0), dirty-on (w .1)), λ w. given .1 (commit-could (w .0), on-dirty (w .1)))
-
-    commit-rings : (judged tables s (Commit t) .verdict ≡ Refused OnRing) ↔ (CouldCommit tables s t × (ReadsDirty (s .ops) t → ⊥) × (onRing (s .ops) t ≡ true))
-    commit-rings =
-        let given = only-line tables s (Commit t) OnRing (take 5 (lines tables s (Commit t))) [] (onRing (s .ops) t) refl refl refl in (
-          λ v.
-              let w = given .0 v in
-              let off = w .0 in
-              (could-commit (off .0, (off .1 .0, (off .1 .1 .0, (off .1 .1 .1 .0, tt)))), λ d. clash (on-dirty d) (off .1 .1 .1 .1 .0), w .1),
-          λ w.
-              let off = commit-could (w .0) in
-              given .1 ((off .0, (off .1 .0, (off .1 .1 .0, (off .1 .1 .1 .0, (is-not (dirty (s .ops) t) (λ d. w .1 (dirty-on d)), tt))))), w .2),
-        )
 
 -- ---- in a state that events lead to
 
@@ -490,9 +397,13 @@ module _ (tables : Tables) (es : List Event) where
         invoke-rings = invoke-rings;
         delegate = λ t r q. (delegate-may t r q, may-delegate t r q);
         delegate-rings = delegate-rings;
-        commit = λ t. (commit-may tables now t, may-commit tables now t);
-        commit-dirty = commit-dirty tables now;
-        commit-rings = commit-rings tables now;
+        commit = commit-when tables es;
+        commit-dirty = commit-dirty tables es;
+        commit-rings = commit-rings tables es;
+        hand = hand-when tables es;
+        hand-rings = hand-rings tables es;
+        hand-clean = hand-clean tables es;
+        spawn = λ m c. (spawn-may tables now m c, may-spawn tables now m c);
         abort = λ t. (abort-may tables now t, may-abort tables now t);
         pairs-made = λ t o m low within a b. (pairs-to t o m low within a b, pairs-from t o m low within a b);
       }

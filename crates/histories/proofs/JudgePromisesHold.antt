@@ -1,6 +1,6 @@
 -- The promises of judging, proved.
 use Prim.Native.Nat.{ℕ}
-use mathlib.Core.Path.{_≡_, refl, sym, subst, _∙_}
+use mathlib.Core.Path.{_≡_, refl, sym, ap, subst, subst⁻¹, _∙_}
 use mathlib.Core.List.{List}
 use mathlib.Core.Bool.{true}
 use borrow.Author.Tests.{lt-ltb}
@@ -10,12 +10,13 @@ use Rattle.ties.specs.declared.Fate.the-variants.{Aborted as FateAborted, Commi
 use Rattle.ties.proofs.OpsLaws.{rewritten-at}
 use Rattle.tables.specs.declared.Tables.{Tables}
 use Rattle.histories.specs.Histories.{reached}
-use Rattle.judge.specs.Judge.{stateAfter}
+use Rattle.judge.specs.Judge.{commitUnder, stateAfter}
 use Rattle.histories.specs.Promises.{AnyRun, EndsWith, JudgePromises}
 use Rattle.rules.specs.States.{isActive, phaseOf}
 use Rattle.judge.specs.declared.Change.the-variants.{Ends}
 use Rattle.terms.specs.declared.Event.{Event}
 use Rattle.terms.specs.declared.Event.the-variants.{Abort, Commit}
+use Rattle.rules.specs.declared.Parent.{Parent}
 use Rattle.rules.specs.declared.Phase.{Phase}
 use Rattle.rules.specs.declared.Phase.the-variants.{Aborted, Committed}
 use Rattle.rules.specs.declared.State.{State}
@@ -27,7 +28,9 @@ use Rattle.judge.proofs.EventLaws.{next-ok}
 use Rattle.histories.proofs.Singles.{ended-alone}
 use Rattle.histories.proofs.TiesMean.{ties-mean}
 use Rattle.histories.proofs.Orders.{order-means}
-use Rattle.histories.proofs.UndoRings.{freed, rings-given, rings-made}
+use Rattle.histories.proofs.UndoRings.{freed, rings-given, rings-handed, rings-made}
+use Rattle.histories.proofs.FamiliesHold.{families}
+use Rattle.histories.proofs.Kin.{clerk-is, kin}
 use Rattle.ties.proofs.OrderLaws.{made-order}
 
 ends-with : (s : State) (t : ℕ) (phase : Phase) (fate : Fate) → EndsWith s (stateAfter (Ends t phase fate) s) t fate
@@ -46,9 +49,11 @@ any-run tables es =
       undo-off-rings = freed tables es .free;
       rings-made = rings-made tables es;
       rings-given = rings-given tables es;
+      rings-handed = rings-handed tables es;
       order-made = λ x l. made-order (reached tables es .ops) x (lasting tables es .room) l;
       active = λ q l a. is-active (phaseOf (reached tables es .transactions) (opAt (reached tables es .ops) q .responsible)) (lasting tables es .active q a);
-      commits = λ t v. subst (λ (x : State). EndsWith (reached tables es) x t FateCommitted) (sym (next-ok tables (reached tables es) (Commit t) v))
+      commits = λ t own v. subst⁻¹ (λ (x : State). EndsWith (reached tables es) x t FateCommitted)
+          (next-ok tables (reached tables es) (Commit t) v ∙ ap (λ (p : Parent). stateAfter (commitUnder t p) (reached tables es)) (clerk-is tables (reached tables es) (kin tables es) t ∙ own))
           (ends-with (reached tables es) t Committed FateCommitted);
       aborts = λ t v. subst (λ (x : State). EndsWith (reached tables es) x t FateAborted) (sym (next-ok tables (reached tables es) (Abort t) v))
           (ends-with (reached tables es) t Aborted FateAborted);
@@ -58,4 +63,4 @@ any-run tables es =
     is-active p e = rw (of-active p e)
 
 pub judge-promises : JudgePromises
-judge-promises = record { ended-alone = ended-alone; any-run = any-run; never-begins = λ tables es t w. never-begins tables es t w }
+judge-promises = record { ended-alone = ended-alone; any-run = any-run; families = families; never-begins = λ tables es t w. never-begins tables es t w }

@@ -5,11 +5,15 @@ pub mod Lasts
 pub mod Touches
 pub mod Invariants
 pub mod Endings
+pub mod Kin
 pub mod Accounts
 pub mod Singles
 pub mod TiesMean
 pub mod CircleIdle
 pub mod Orders
 pub mod UndoRings
+pub mod CommitsWhen
 pub mod AcceptedWhenHolds
+pub mod Splits
+pub mod FamiliesHold
 pub mod JudgePromisesHold

@@ -1,7 +1,7 @@
 -- One operation ended alone: when it is accepted, and that nothing else changes.
 use Prim.Native.Nat.{ℕ}
 use mathlib.Core.Path.{_≡_, refl, sym, subst, _∙_}
-use mathlib.Core.Bool.{true, false, not, _||_, and-false, false≢true}
+use mathlib.Core.Bool.{Bool, true, false, not, _||_, and-false}
 use lib.Dec.{ltb, eqb}
 use borrow.Author.Tests.{eq-eqb, lt-ltb, ne-eqb}
 use Rattle.laws.proofs.Bools.{bool-cases}
@@ -14,34 +14,26 @@ use Rattle.ties.specs.declared.Fate.the-variants.{Aborted as FateAborted, Commi
 use Rattle.ties.proofs.OpsLaws.{count-rewritten, rewritten-at}
 use Rattle.ties.proofs.DirtyLaws.{CleanBefore, clean-dirty, dirty-clean, read-on, read-parts}
 use Rattle.ties.proofs.OrderLaws.{active-stands}
-use Rattle.tables.specs.Sorts.{isKnown, isPlain, sortOf}
-use Rattle.tables.specs.declared.Sort.{Sort}
-use Rattle.tables.specs.declared.Sort.the-variants.{Plain, Saga, Step, Undo, Unknown}
+use Rattle.tables.specs.Sorts.{isPlain, sortOf}
 use Rattle.tables.specs.declared.Tables.{Tables}
-use Rattle.judge.specs.Judge.{judged, stateAfter, unknown}
+use Rattle.judge.specs.Judge.{clerkOf, judged, stateAfter, unknown}
 use Rattle.terms.specs.Events.{isWrite}
 use Rattle.histories.specs.Promises.{EndedAlone, MayCommitOne, MayEndOne, OnlyEnds}
-use Rattle.rules.specs.States.{isActive, phaseOf}
+use Rattle.rules.specs.States.{isActive, isChild, phaseOf}
 use Rattle.judge.specs.declared.Change.the-variants.{EndsOne}
 use Rattle.terms.specs.declared.Event.the-variants.{AbortOne, CommitOne}
 use Rattle.rules.specs.declared.State.{State}
+use Rattle.judge.proofs.ClerkLaws.{plain-known}
 use Rattle.judge.proofs.EventLaws.{lines-off, next-ok, off-lines}
 use Rattle.histories.proofs.Steps.{commit-one-may, single-may}
-
-plain-known : (x : Sort) → isPlain x ≡ true → not (isKnown x) ≡ false
-plain-known (Saga f n) e = absurd (false≢true e)
-plain-known (Step f n i) e = absurd (false≢true e)
-plain-known (Undo f n i) e = absurd (false≢true e)
-plain-known Plain e = refl
-plain-known Unknown e = absurd (false≢true e)
 
 module _ (tables : Tables) (s : State) (t q : ℕ) where
   module _ (may : MayEndOne tables s t q) where
     known : (unknown tables t || not (ltb q (size (s .ops)))) ≡ false
     known = rw (plain-known (sortOf tables t) (may .plain), lt-ltb q (size (s .ops)) (may .accepted))
 
-    not-plain : not (isPlain (sortOf tables t)) ≡ false
-    not-plain = rw (may .plain)
+    not-plain : (never : Bool) → never ≡ false → (not (isPlain (sortOf tables t)) || never) ≡ false
+    not-plain never e = rw (may .plain, e)
 
     not-active : not (isActive (phaseOf (s .transactions) t)) ≡ false
     not-active = rw (may .active)
@@ -62,19 +54,19 @@ module _ (tables : Tables) (s : State) (t q : ℕ) where
   commit-may : judged tables s (CommitOne t q) .verdict ≡ Accepted → MayCommitOne tables s t q
   commit-may v =
       let may = commit-one-may tables s t q (lines-off tables s (CommitOne t q) v) in
-      record { may-end = may .0; clean = clean-one (may .0) (may .1); off-rings = may .2 }
+      record { may-end = may .0; no-child = may .3; clean = clean-one (may .0) (may .1); off-rings = may .2 }
 
   may-commit : MayCommitOne tables s t q → judged tables s (CommitOne t q) .verdict ≡ Accepted
   may-commit may =
       let end = may .may-end in
       off-lines tables s (CommitOne t q)
-      (known end, (not-plain end, (not-active end, (not-mine end, (not-running end, (one-clean end (may .clean), (may .off-rings, tt)))))))
+      (known end, (not-plain end (isChild (clerkOf tables (s .transactions) t)) (may .no-child), (not-active end, (not-mine end, (not-running end, (one-clean end (may .clean), (may .off-rings, tt)))))))
 
   abort-may : judged tables s (AbortOne t q) .verdict ≡ Accepted → MayEndOne tables s t q
-  abort-may v = single-may tables s t q (lines-off tables s (AbortOne t q) v)
+  abort-may v = single-may tables s t q false (lines-off tables s (AbortOne t q) v)
 
   may-abort : MayEndOne tables s t q → judged tables s (AbortOne t q) .verdict ≡ Accepted
-  may-abort end = off-lines tables s (AbortOne t q) (known end, (not-plain end, (not-active end, (not-mine end, (not-running end, tt)))))
+  may-abort end = off-lines tables s (AbortOne t q) (known end, (not-plain end false refl, (not-active end, (not-mine end, (not-running end, tt)))))
 
   only-ends : (fate : Fate) → MayEndOne tables s t q → OnlyEnds s (stateAfter (EndsOne q fate) s) q fate
   unfolding stateAfter

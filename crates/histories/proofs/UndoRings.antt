@@ -2,24 +2,25 @@
 -- would close a ring through an active undo; ends add no pair; and whoever begins is responsible for nothing.
 use Prim.Native.Nat.{ℕ, _+_, _<_}
 use native.Mathlib.Omega.{arith}
-use mathlib.Core.Path.{_≡_, refl, ap, _∙_, subst, subst⁻¹}
+use mathlib.Core.Path.{_≡_, refl, sym, ap, _∙_, subst, subst⁻¹}
 use mathlib.Core.Bool.{Bool, true, false, _&&_}
 use mathlib.Core.Logic.{_↔_, _⊎_, ⊎-elim}
 use mathlib.Core.List.{List}
 use lib.Dec.{eqb}
 use Rattle.laws.proofs.Bools.{and-on, and-rest, bool-cases, clash, is-not, on-and}
+use Rattle.laws.proofs.Decisions.{same-or}
 use Rattle.laws.proofs.IndexLaws.{any-elim, any-intro}
 use Rattle.terms.specs.Limits.{mostTransactions}
 use Rattle.terms.specs.declared.Event.{Event}
 use Rattle.terms.specs.declared.Mark.{Mark}
 use Rattle.sets.specs.Reach.{Leads, leadsTo}
 use Rattle.sets.proofs.ReachLaws.{AddsAt, join, last-step, leads-more, ring-via}
-use Rattle.ties.specs.Operations.{allHeldBy, endedAs, given, isActive as isActiveOp, made, newOp, onlyActive, opAt, rewritten, size}
-use Rattle.ties.specs.Ties.{before, beforeGiven, beforeMade, onRing, opWith, ringWith, tiesOf}
+use Rattle.ties.specs.Operations.{allHeldBy, endedAs, given, handed, isActive as isActiveOp, made, newOp, onlyActive, opAt, rewritten, size}
+use Rattle.ties.specs.Ties.{before, beforeGiven, beforeHanded, beforeMade, onRing, opWith, ringWith, tiesOf}
 use Rattle.ties.specs.declared.Fate.{Fate}
 use Rattle.ties.specs.declared.Operation.{Operation}
 use Rattle.ties.specs.declared.Ops.{Ops}
-use Rattle.ties.proofs.OrderLaws.{ended-order, given-adds, given-ended, made-adds, made-order}
+use Rattle.ties.proofs.OrderLaws.{ended-order, given-adds, given-ended, handed-adds, made-adds, made-order}
 use Rattle.ties.proofs.RingLaws.{leads-of, leads-ring, of-leads, ring-free, ring-leads}
 use Rattle.ties.proofs.TieLaws.{between, ties-small}
 use Rattle.tables.specs.Sorts.{isPlain, isUndo, sortOf}
@@ -30,13 +31,16 @@ use Rattle.rules.specs.Rules.{activeUndo}
 use Rattle.judge.specs.Judge.{stateAfter}
 use Rattle.rules.specs.States.{emptyState, isActive, phaseOf}
 use Rattle.judge.specs.declared.Change.{Change}
+use Rattle.rules.specs.declared.Phase.{Phase}
+use Rattle.rules.specs.declared.Phase.the-variants.{Committed}
 use Rattle.rules.specs.declared.State.{State}
 use Rattle.rules.proofs.PhaseLaws.{active-is, code}
+use Rattle.rules.proofs.StateLaws.{entered-other}
 use Rattle.histories.specs.Histories.{reached}
 use Rattle.histories.specs.Promises.{UndoRinged}
 use Rattle.histories.proofs.Endings.{Together, together-kept, together-start}
 use Rattle.histories.proofs.Lasts.{size-count}
-use Rattle.histories.proofs.Steps.{Giving, Making, Step, ends, ends-one, enters, gives, keeps-by, makes}
+use Rattle.histories.proofs.Steps.{Giving, Handing, Making, Step, ends, ends-one, enters, gives, hands, keeps-by, makes, spawns}
 use Rattle.histories.proofs.Touches.{Phased, as-was, ended-now, entered-now, phased}
 
 -- an undo is not plain
@@ -173,6 +177,15 @@ module _ (tables : Tables) (s : State) (h : Together tables s) (free : UndoFree 
       (λ z.
       clash (leads-ring (s .ops) u (subst (λ (R : ℕ → ℕ → Bool). Leads R u u) (given-ended (s .ops) q r z) (ring-leads (given q r (s .ops)) u x))) (free u a)))
 
+  -- ---- what a child is at work on handed over
+
+  handed-free : (t m : ℕ) → Handing tables s t m → (u : ℕ) → activeUndo tables (s .transactions) u ≡ true → onRing (handed t m (s .ops)) u ≡ false
+  handed-free t m f u a =
+      is-not (onRing (handed t m (s .ops)) u)
+      (λ x.
+      still-free tables s (size (handed t m (s .ops))) (opAt (handed t m (s .ops))) m free (handed-adds (s .ops) t m) (f .no-ring) u a
+      (ring-leads (handed t m (s .ops)) u x))
+
   -- ---- all together
 
   -- u is active after the event: it was, or has just begun
@@ -192,6 +205,12 @@ module _ (tables : Tables) (s : State) (h : Together tables s) (free : UndoFree 
   free-after c (ends-one t q fate f) u a = ends-free (onlyActive q) (chosen-active q) fate u a
   free-after c (makes t o m f) u a = made-free t o m f u a
   free-after c (gives t r q f) u a = given-free t r q f u a
+  free-after c (hands t m f) u a =
+      same-or u t
+      (λ e. clash (ap (λ (x : ℕ). isPlain (sortOf tables x)) e ∙ f .helps .helper) (undo-not-plain (sortOf tables u) (undo-parts tables (stateAfter c s) u a .0)))
+      (λ e. handed-free t m f u (ap (λ (p : Phase). isUndo (sortOf tables u) && isActive p) (sym (entered-other (s .transactions) t u Committed e)) ∙ a))
+  free-after c (spawns m t f) u a =
+      by-phase c u a (phased tables s c (spawns m t f) u) (free u) (λ sort idle. ring-free (s .ops) u (λ x. idle-alone u x sort idle))
 
 -- ---- after any run of events
 
@@ -225,3 +244,9 @@ module _ (tables : Tables) (es : List Event) where
   rings-given q r =
       let ops = reached tables es .ops in
       exact tables (reached tables es) (size (given q r ops)) (opAt (given q r ops)) r (freed tables es .free) (given-adds ops q r)
+
+  pub rings-handed : (t m : ℕ) → (ringWith (beforeHanded (reached tables es .ops) t m) (activeUndo tables (reached tables es .transactions)) m ≡ true)
+      ↔ UndoRinged tables (reached tables es) (beforeHanded (reached tables es .ops) t m)
+  rings-handed t m =
+      let ops = reached tables es .ops in
+      exact tables (reached tables es) (size (handed t m ops)) (opAt (handed t m ops)) m (freed tables es .free) (handed-adds ops t m)

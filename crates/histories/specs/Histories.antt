@@ -11,11 +11,13 @@ use Rattle.ties.specs.Operations.{isActive, size}
 use Rattle.ties.specs.declared.Fate.{Fate}
 use Rattle.ties.specs.declared.Fate.the-variants.{Aborted as FateAborted, Active as FateActive, Committed as FateCommitted}
 use Rattle.tables.specs.declared.Tables.{Tables}
+use Rattle.rules.specs.declared.Parent.{Parent}
+use Rattle.rules.specs.declared.Parent.the-variants.{Nobody, Under}
 use Rattle.rules.specs.declared.Phase.{Phase}
 use Rattle.rules.specs.declared.Phase.the-variants.{Aborted, Active, Committed, Idle}
 use Rattle.rules.specs.declared.State.{State}
 use Rattle.terms.specs.declared.Event.{Event}
-use Rattle.terms.specs.declared.Event.the-variants.{Begin, Commit, Abort, Operation as Invoke, Delegate, CommitOne, AbortOne}
+use Rattle.terms.specs.declared.Event.the-variants.{Begin, Commit, Abort, Operation as Invoke, Delegate, CommitOne, AbortOne, Spawn}
 use Rattle.rules.specs.States.{emptyState}
 use Rattle.judge.specs.Judge.{judged}
 
@@ -52,24 +54,30 @@ pub record Deed : Type 0 where
   pub whose : ℕ
   pub fate : Fate
 
--- an account: the phase of each transaction, how many operations were made, and each of them
+-- an account: the phase of each transaction and whose child it is, how many operations were made, and each of them
 pub record Account : Type 0 where
   pub phase : ℕ → Phase
+  pub parent : ℕ → Parent
   pub made : ℕ
   pub deed : ℕ → Deed
 
 abbrev pub noAccount : Account
-noAccount = record { phase = λ t. Idle; made = 0; deed = λ q. record { object = 0; mark = Read; whose = 0; fate = FateActive } }
+noAccount = record { phase = λ t. Idle; parent = λ t. Nobody; made = 0; deed = λ q. record { object = 0; mark = Read; whose = 0; fate = FateActive } }
 
 -- t is in another phase from now on
 abbrev pub moved : Phase → ℕ → Account → Account
-moved p t a = record { phase = λ u. cond (eqb u t) p (a .phase u); made = a .made; deed = a .deed }
+moved p t a = record { phase = λ u. cond (eqb u t) p (a .phase u); parent = a .parent; made = a .made; deed = a .deed }
+
+-- t is m's child from now on
+abbrev pub adopted : ℕ → ℕ → Account → Account
+adopted m t a = record { phase = a .phase; parent = λ u. cond (eqb u t) (Under m) (a .parent u); made = a .made; deed = a .deed }
 
 -- the next operation is t's
 abbrev pub invoked : ℕ → ℕ → Mark → Account → Account
 invoked t o m a =
     record {
       phase = a .phase;
+      parent = a .parent;
       made = suc (a .made);
       deed = λ q. cond (eqb q (a .made)) (record { object = o; mark = m; whose = t; fate = FateActive }) (a .deed q);
     }
@@ -77,7 +85,7 @@ invoked t o m a =
 -- those that are meant change, unless they have ended
 abbrev pub retell : (ℕ → Deed → Bool) → (Deed → Deed) → Account → Account
 retell meant how a =
-    record { phase = a .phase; made = a .made; deed = λ q. cond (meant q (a .deed q)) (cond (isActive (a .deed q .fate)) (how (a .deed q)) (a .deed q)) (a .deed q) }
+    record { phase = a .phase; parent = a .parent; made = a .made; deed = λ q. cond (meant q (a .deed q)) (cond (isActive (a .deed q .fate)) (how (a .deed q)) (a .deed q)) (a .deed q) }
 
 -- those of t, and operation p
 abbrev pub ofThe : ℕ → ℕ → Deed → Bool
@@ -92,14 +100,20 @@ toReceiver r d = record { object = d .object; mark = d .mark; whose = r; fate = 
 abbrev pub toFate : Fate → Deed → Deed
 toFate fate d = record { object = d .object; mark = d .mark; whose = d .whose; fate = fate }
 
+-- "Its commit hands its active operations to the parent instead of ending them"
+abbrev pub kept : ℕ → Parent → Account → Account
+kept t Nobody a = retell (ofThe t) (toFate FateCommitted) a
+kept t (Under m) a = retell (ofThe t) (toReceiver m) a
+
 abbrev pub recounted : Event → Account → Account
 recounted (Begin t) a = moved Active t a
-recounted (Commit t) a = retell (ofThe t) (toFate FateCommitted) (moved Committed t a)
+recounted (Commit t) a = kept t (a .parent t) (moved Committed t a)
 recounted (Abort t) a = retell (ofThe t) (toFate FateAborted) (moved Aborted t a)
 recounted (Invoke t o m) a = invoked t o m a
 recounted (Delegate t r p) a = retell (only p) (toReceiver r) a
 recounted (CommitOne t p) a = retell (only p) (toFate FateCommitted) a
 recounted (AbortOne t p) a = retell (only p) (toFate FateAborted) a
+recounted (Spawn m c) a = adopted m c (moved Active c a)
 
 unfoldable pub accountOf : List Event → Account → Account
 accountOf [] a = a

@@ -2,3 +2,4 @@
 pub mod Histories
 pub mod Promises
 pub mod May
+pub mod Families

@@ -8,18 +8,19 @@ use mathlib.Core.List.{List}
 use Rattle.terms.specs.Events.{isWrite}
 use Rattle.terms.specs.Limits.{mostObjects, mostTransactions}
 use Rattle.terms.specs.declared.Event.{Event}
-use Rattle.terms.specs.declared.Event.the-variants.{Abort, Begin, Commit, Delegate, Operation as Invoke}
+use Rattle.terms.specs.declared.Event.the-variants.{Abort, Begin, Commit, Delegate, Operation as Invoke, Spawn}
 use Rattle.terms.specs.declared.Mark.{Mark}
 use Rattle.terms.specs.declared.Refusal.the-variants.{DirtyRead, MustWait, OnRing, UndoOnRing}
 use Rattle.terms.specs.declared.Verdict.the-variants.{Accepted, Refused}
 use Rattle.ties.specs.Operations.{isAborted, isActive as isActiveOperation, mostOperations, newOp, opAt, size}
-use Rattle.ties.specs.Ties.{before, beforeGiven, beforeMade, cleanFor, conflict, onRing, tied}
+use Rattle.ties.specs.Ties.{before, beforeGiven, beforeHanded, beforeMade, cleanFor, conflict, onRing, tied}
 use Rattle.ties.specs.declared.Ops.{Ops}
 use Rattle.tables.specs.Counts.{objectCount}
-use Rattle.tables.specs.Sorts.{isKnown, isSaga, isUndo, sortOf}
+use Rattle.tables.specs.Sorts.{isKnown, isPlain, isSaga, isUndo, sortOf}
 use Rattle.tables.specs.declared.Tables.{Tables}
 use Rattle.rules.specs.Rules.{abortBarred, beginBarred, commitBarred, declaredBars}
-use Rattle.rules.specs.States.{isActive, isIdle, phaseOf}
+use Rattle.rules.specs.States.{hasEnded, isActive, isIdle, parentOf, phaseOf}
+use Rattle.rules.specs.declared.Parent.the-variants.{Nobody, Under}
 use Rattle.rules.specs.declared.State.{State}
 use Rattle.judge.specs.Judge.{judged}
 use Rattle.histories.specs.Histories.{reached}
@@ -98,23 +99,53 @@ pub record MayDelegate (tables : Tables) (s : State) (t r q : ℕ) : Type 0 wher
 
 -- ---- a commit
 
--- t is in the tables and active, the saga rules and the declared dependencies let it; every write tied before a read t answers for is committed, or is active
+-- "A parent can't commit while a child is active": none of t's own children is
+abbrev pub ChildrenDone : State → ℕ → Type 0
+ChildrenDone s t = (c : ℕ) → parentOf (s .transactions) c ≡ Under t → isActive (phaseOf (s .transactions) c) ≡ false
+
+-- t is in the tables and active, the saga rules and the declared dependencies let it, and no child of its own is active; every write tied before a read t answers for is committed, or is active
 -- and t's; and t is on no ring
 pub record MayCommit (tables : Tables) (s : State) (t : ℕ) : Type 0 where
   pub known : isKnown (sortOf tables t) ≡ true
   pub active : isActive (phaseOf (s .transactions) t) ≡ true
   pub saga : commitBarred (s .transactions) (sortOf tables t) ≡ false
   pub declared : declaredBars false tables (s .transactions) t ≡ false
+  pub children : ChildrenDone s t
   pub clean : (q : ℕ) → q < size (s .ops) → opAt (s .ops) q .responsible ≡ t → isWrite (opAt (s .ops) q .mark) ≡ false → isAborted (opAt (s .ops) q .fate) ≡ false
       → (p : ℕ) → isWrite (opAt (s .ops) p .mark) ≡ true → tied (s .ops) p q ≡ true → cleanFor t (opAt (s .ops) p) ≡ true
   pub off-rings : onRing (s .ops) t ≡ false
 
--- t is in the tables and active, the saga rules and the declared dependencies let it
+-- t is in the tables and active, the saga rules and the declared dependencies let it, and no child of its own is active
 pub record CouldCommit (tables : Tables) (s : State) (t : ℕ) : Type 0 where
   pub known : isKnown (sortOf tables t) ≡ true
   pub active : isActive (phaseOf (s .transactions) t) ≡ true
   pub saga : commitBarred (s .transactions) (sortOf tables t) ≡ false
   pub declared : declaredBars false tables (s .transactions) t ≡ false
+  pub children : ChildrenDone s t
+
+-- ---- the commit of m's child, for which 15 and 16 are not judged
+
+-- t is active, the declared dependencies let it, no child of its own is active, and its parent has not ended
+pub record CouldHand (tables : Tables) (s : State) (t m : ℕ) : Type 0 where
+  pub active : isActive (phaseOf (s .transactions) t) ≡ true
+  pub declared : declaredBars false tables (s .transactions) t ≡ false
+  pub children : ChildrenDone s t
+  pub parent : hasEnded (phaseOf (s .transactions) m) ≡ false
+
+-- and it would put no active undo on a ring
+pub record MayHand (tables : Tables) (s : State) (t m : ℕ) : Type 0 where
+  pub could : CouldHand tables s t m
+  pub no-ring : UndoRinged tables s (beforeHanded (s .ops) t m) → ⊥
+
+-- ---- a spawn
+
+-- both are plain; the child is idle, the parent active, and the declared dependencies let the child begin
+pub record MaySpawn (tables : Tables) (s : State) (m c : ℕ) : Type 0 where
+  pub parent : isPlain (sortOf tables m) ≡ true
+  pub child : isPlain (sortOf tables c) ≡ true
+  pub idle : isIdle (phaseOf (s .transactions) c) ≡ true
+  pub active : isActive (phaseOf (s .transactions) m) ≡ true
+  pub declared : declaredBars true tables (s .transactions) c ≡ false
 
 -- before some read q that t answers for, itself not aborted, a write p is tied that is not committed, nor active and t's
 pub record ReadsDirty (ops : Ops) (t : ℕ) : Type 0 where
@@ -163,12 +194,23 @@ pub record AcceptedWhen (tables : Tables) (es : List Event) : Type 0 where
   pub delegate : (t r q : ℕ) → (judged tables (reached tables es) (Delegate t r q) .verdict ≡ Accepted) ↔ MayDelegate tables (reached tables es) t r q
   pub delegate-rings : (t r q : ℕ) → (judged tables (reached tables es) (Delegate t r q) .verdict ≡ Refused UndoOnRing)
       ↔ (CouldDelegate tables (reached tables es) t r q × RingsGiven tables (reached tables es) r q)
-  pub commit : (t : ℕ) → (judged tables (reached tables es) (Commit t) .verdict ≡ Accepted) ↔ MayCommit tables (reached tables es) t
+  -- who is nobody's child
+  pub commit : (t : ℕ) → parentOf (reached tables es .transactions) t ≡ Nobody
+      → (judged tables (reached tables es) (Commit t) .verdict ≡ Accepted) ↔ MayCommit tables (reached tables es) t
   -- 15 exactly when there is a dirty read, and 16 exactly when there is none and t is on a ring
-  pub commit-dirty : (t : ℕ) → (judged tables (reached tables es) (Commit t) .verdict ≡ Refused DirtyRead)
+  pub commit-dirty : (t : ℕ) → parentOf (reached tables es .transactions) t ≡ Nobody → (judged tables (reached tables es) (Commit t) .verdict ≡ Refused DirtyRead)
       ↔ (CouldCommit tables (reached tables es) t × ReadsDirty (reached tables es .ops) t)
-  pub commit-rings : (t : ℕ) → (judged tables (reached tables es) (Commit t) .verdict ≡ Refused OnRing)
+  pub commit-rings : (t : ℕ) → parentOf (reached tables es .transactions) t ≡ Nobody → (judged tables (reached tables es) (Commit t) .verdict ≡ Refused OnRing)
       ↔ (CouldCommit tables (reached tables es) t × (ReadsDirty (reached tables es .ops) t → ⊥) × (onRing (reached tables es .ops) t ≡ true))
+  -- m's child: 22 exactly when it would put an active undo on a ring, and never 15 or 16
+  pub hand : (t m : ℕ) → parentOf (reached tables es .transactions) t ≡ Under m
+      → (judged tables (reached tables es) (Commit t) .verdict ≡ Accepted) ↔ MayHand tables (reached tables es) t m
+  pub hand-rings : (t m : ℕ) → parentOf (reached tables es .transactions) t ≡ Under m
+      → (judged tables (reached tables es) (Commit t) .verdict ≡ Refused UndoOnRing)
+      ↔ (CouldHand tables (reached tables es) t m × UndoRinged tables (reached tables es) (beforeHanded (reached tables es .ops) t m))
+  pub hand-clean : (t m : ℕ) → parentOf (reached tables es .transactions) t ≡ Under m
+      → (judged tables (reached tables es) (Commit t) .verdict ≢ Refused DirtyRead) × (judged tables (reached tables es) (Commit t) .verdict ≢ Refused OnRing)
+  pub spawn : (m c : ℕ) → (judged tables (reached tables es) (Spawn m c) .verdict ≡ Accepted) ↔ MaySpawn tables (reached tables es) m c
   pub abort : (t : ℕ) → (judged tables (reached tables es) (Abort t) .verdict ≡ Accepted) ↔ MayAbort tables (reached tables es) t
   -- a new operation within the limits adds exactly the pairs that end at its invoker
   pub pairs-made : (t o : ℕ) (m : Mark) → t < mostTransactions → o < mostObjects → (a b : ℕ)

@@ -8,7 +8,7 @@ use mathlib.Core.List.{List}
 use Rattle.terms.specs.Limits.{mostTransactions}
 use Rattle.terms.specs.declared.Verdict.the-variants.{Accepted}
 use Rattle.ties.specs.Operations.{isAborted, isActive as isActiveOperation, made, mostOperations, newOp, opAt, size, heldBy, endedAs}
-use Rattle.ties.specs.Ties.{before, beforeGiven, beforeMade, conflict, tied, cleanFor, onRing, ringWith}
+use Rattle.ties.specs.Ties.{before, beforeGiven, beforeHanded, beforeMade, conflict, tied, cleanFor, onRing, ringWith}
 use Rattle.ties.specs.declared.Operation.{Operation}
 use Rattle.ties.specs.declared.Ops.{Ops}
 use Rattle.terms.specs.declared.Mark.{Mark}
@@ -18,14 +18,16 @@ use Rattle.sets.specs.Reach.{Leads}
 use Rattle.tables.specs.Circles.{beginLink}
 use Rattle.tables.specs.Sorts.{isPlain, sortOf}
 use Rattle.tables.specs.declared.Tables.{Tables}
+use Rattle.rules.specs.declared.Parent.the-variants.{Nobody}
 use Rattle.rules.specs.declared.Phase.the-variants.{Idle}
 use Rattle.rules.specs.declared.State.{State}
 use Rattle.terms.specs.declared.Event.{Event}
 use Rattle.terms.specs.declared.Event.the-variants.{Abort, AbortOne, Commit, CommitOne}
-use Rattle.rules.specs.States.{isActive, phaseOf, emptyState}
+use Rattle.rules.specs.States.{isActive, isChild, parentOf, phaseOf, emptyState}
 use Rattle.rules.specs.Rules.{activeUndo}
-use Rattle.judge.specs.Judge.{lines, judged}
+use Rattle.judge.specs.Judge.{clerkOf, lines, judged}
 use Rattle.terms.specs.Events.{isWrite}
+use Rattle.histories.specs.Families.{Families}
 use Rattle.histories.specs.Histories.{Deed, history, reached, responsibleIn, told, whenMade}
 
 -- ---- one operation ended alone
@@ -41,6 +43,8 @@ pub record MayEndOne (tables : Tables) (s : State) (t q : ℕ) : Type 0 where
 -- "A single commit must pass the dirty-read rule for that operation and the ring rule for its transaction."
 pub record MayCommitOne (tables : Tables) (s : State) (t q : ℕ) : Type 0 where
   pub may-end : MayEndOne tables s t q
+  -- "9 .. also for a single commit by a spawned child"
+  pub no-child : isChild (clerkOf tables (s .transactions) t) ≡ false
   -- every write tied before q, if q is a read, is committed, or is active and t's
   pub clean : isWrite (opAt (s .ops) q .mark) ≡ false
       → (p : ℕ) → isWrite (opAt (s .ops) p .mark) ≡ true → tied (s .ops) p q ≡ true → cleanFor t (opAt (s .ops) p) ≡ true
@@ -113,14 +117,17 @@ pub record AnyRun (tables : Tables) (es : List Event) : Type 0 where
       ↔ UndoRinged tables (reached tables es) (beforeMade (reached tables es .ops) (newOp t o m))
   pub rings-given : (q r : ℕ) → (ringWith (beforeGiven (reached tables es .ops) q r) (activeUndo tables (reached tables es .transactions)) r ≡ true)
       ↔ UndoRinged tables (reached tables es) (beforeGiven (reached tables es .ops) q r)
+  -- "A child's commit that would put an active undo on a ring is refused, as such a delegation is."
+  pub rings-handed : (t m : ℕ) → (ringWith (beforeHanded (reached tables es .ops) t m) (activeUndo tables (reached tables es .transactions)) m ≡ true)
+      ↔ UndoRinged tables (reached tables es) (beforeHanded (reached tables es .ops) t m)
   -- where there is room for the operation, that is the order after it
   pub order-made : (x : Operation) → reached tables es .ops .count < mostOperations
       → beforeMade (reached tables es .ops) x ≡ before (made x (reached tables es .ops))
   -- an active operation's responsible transaction is active
   pub active : (q : ℕ) → q < size (reached tables es .ops) → isActiveOperation (opAt (reached tables es .ops) q .fate) ≡ true
       → isActive (phaseOf (reached tables es .transactions) (opAt (reached tables es .ops) q .responsible)) ≡ true
-  -- "Commit or abort of t ends the active operations t is responsible for in the same way, and no others."
-  pub commits : (t : ℕ) → judged tables (reached tables es) (Commit t) .verdict ≡ Accepted
+  -- "Commit or abort of t ends the active operations t is responsible for in the same way, and no others", but for the commit of a child
+  pub commits : (t : ℕ) → parentOf (reached tables es .transactions) t ≡ Nobody → judged tables (reached tables es) (Commit t) .verdict ≡ Accepted
       → EndsWith (reached tables es) (judged tables (reached tables es) (Commit t) .state) t Committed
   pub aborts : (t : ℕ) → judged tables (reached tables es) (Abort t) .verdict ≡ Accepted
       → EndsWith (reached tables es) (judged tables (reached tables es) (Abort t) .state) t Aborted
@@ -128,5 +135,7 @@ pub record AnyRun (tables : Tables) (es : List Event) : Type 0 where
 pub record JudgePromises : Type 0 where
   pub ended-alone : (tables : Tables) (s : State) (t q : ℕ) → EndedAlone tables s t q
   pub any-run : (tables : Tables) (es : List Event) → AnyRun tables es
+  -- helpers under a clerk
+  pub families : (tables : Tables) (es : List Event) → Families tables es
   -- why tables that can never move are refused: whom begin dependencies lead back to itself never begins, whatever the events
   pub never-begins : (tables : Tables) (es : List Event) (t : ℕ) → Leads (beginLink tables) t t → phaseOf (reached tables es .transactions) t ≡ Idle

@@ -13,28 +13,32 @@ use Rattle.laws.proofs.Decisions.{lt-or}
 use Rattle.laws.proofs.LineLaws.{first-off}
 use Rattle.terms.specs.Limits.{mostTransactions}
 use Rattle.terms.specs.declared.Event.{Event}
-use Rattle.terms.specs.declared.Event.the-variants.{Begin, Commit, Abort, Operation as Invoke, Delegate, CommitOne, AbortOne}
+use Rattle.terms.specs.declared.Event.the-variants.{Begin, Commit, Abort, Operation as Invoke, Delegate, CommitOne, AbortOne, Spawn}
 use Rattle.terms.specs.declared.Verdict.{Verdict}
 use Rattle.terms.specs.declared.Verdict.the-variants.{Accepted, Refused}
-use Rattle.ties.specs.Operations.{allHeldBy, endedAs, given, made, mostOperations, newOp, noOperation, onlyActive, opAt, passedTo, rewritten, size}
+use Rattle.ties.specs.Operations.{allHeldBy, endedAs, given, handed, made, mostOperations, newOp, noOperation, onlyActive, opAt, passedTo, rewritten, size}
 use Rattle.ties.proofs.OpsLaws.{count-rewritten, length-made, length-rewritten, made-full, made-room, rewritten-at}
 use Rattle.ties.specs.declared.Operation.{Operation}
 use Rattle.ties.specs.declared.Ops.{Ops}
-use Rattle.cells.specs.Cells.{fits, givenIn, madeIn, opsIn}
+use Rattle.cells.specs.Cells.{fits, givenIn, handedIn, madeIn, opsIn}
 use Rattle.cells.proofs.CellLaws.{none-yet, parts-fit}
-use Rattle.tables.specs.Sorts.{isKnown}
+use Rattle.tables.specs.Sorts.{isKnown, sortOf}
 use Rattle.tables.specs.declared.Sort.{Sort}
 use Rattle.tables.specs.declared.Tables.{Tables}
 use Rattle.sheet.specs.Sheet.{Holds}
-use Rattle.rules.specs.Lent.{transactionsIn}
-use Rattle.rules.specs.States.{emptyState, idle}
+use Rattle.rules.specs.Lent.{spawnedIn, transactionsIn}
+use Rattle.rules.specs.States.{emptyState, idle, spawned}
+use Rattle.rules.specs.declared.Parent.{Parent}
+use Rattle.rules.specs.declared.Transaction.{Transaction}
+use Rattle.rules.specs.declared.Phase.the-variants.{Committed}
 use Rattle.rules.specs.declared.State.{State}
 use Rattle.rules.proofs.LentLaws.{none-begun}
-use Rattle.rules.proofs.StateLaws.{length-entered}
-use Rattle.judge.specs.Judge.{changeBy, judged, lines, opsAfter, rulingOf, stateAfter, transactionsAfter, unknown, unknownObject, verdictBy}
+use Rattle.rules.proofs.StateLaws.{length-entered, length-spawned}
+use Rattle.judge.specs.Judge.{changeBy, commitLines, commitLinesUnder, commitUnder, handLines, judged, lines, opsAfter, rulingOf, stateAfter, transactionsAfter, unknown, unknownObject, verdictBy}
 use Rattle.judge.specs.Lent.{Fitting, Whole, stateIn}
 use Rattle.judge.specs.declared.Change.{Change}
-use Rattle.judge.specs.declared.Change.the-variants.{Nothing, Enters, Ends, EndsOne, Makes, Gives}
+use Rattle.judge.specs.declared.Change.the-variants.{Nothing, Enters, Ends, EndsOne, Makes, Gives, Hands, Spawns}
+use Rattle.judge.proofs.ClerkLaws.{by-clerk, plain-known}
 use Rattle.judge.proofs.LentLaws.{known-low}
 use Rattle.judge.proofs.RuleLaws.{not-accepted, object-small}
 
@@ -50,6 +54,12 @@ made-fits op ops e = rw e
 
 pub given-fits : (q r : ℕ) (ops : Ops) → r < mostTransactions → givenIn q r ops ≡ given q r ops
 given-fits q r ops h = rw (lt-ltb r mostTransactions h)
+
+pub handed-fits : (t m : ℕ) (ops : Ops) → m < mostTransactions → handedIn t m ops ≡ handed t m ops
+handed-fits t m ops h = rw (lt-ltb m mostTransactions h)
+
+pub spawned-fits : (m c : ℕ) (ts : List Transaction) → m < mostTransactions → spawnedIn m c ts ≡ spawned m c ts
+spawned-fits m c ts h = rw (lt-ltb m mostTransactions h)
 
 -- ---- what an event changes, lent numbers can take
 
@@ -67,7 +77,11 @@ module _ (tables : Tables) (sheet : List ℕ) (h : Holds tables sheet) where
   pub ruling-fits : (s : State) (e : Event) → Goal s e
   unfolding rulingOf
   ruling-fits s (Begin t) = fits-by (verdictBy (lines tables s (Begin t))) _ (λ a. tt)
-  ruling-fits s (Commit t) = fits-by (verdictBy (lines tables s (Commit t))) _ (λ a. tt)
+  ruling-fits s (Commit t) =
+      by-clerk tables (s .transactions) t
+      (λ (p : Parent). Fitting (changeBy (verdictBy (commitLinesUnder tables (s .transactions) (s .ops) t p)) (commitUnder t p)))
+      (λ o. fits-by (verdictBy (commitLines tables (s .transactions) (s .ops) t)) _ (λ a. tt))
+      (λ m h. fits-by (verdictBy (handLines tables (s .transactions) (s .ops) t m)) _ (λ a. known m (plain-known (sortOf tables m) (h .clerk))))
   ruling-fits s (Abort t) = fits-by (verdictBy (lines tables s (Abort t))) _ (λ a. tt)
   ruling-fits s (Invoke t o m) =
       fits-by (verdictBy (lines tables s (Invoke t o m))) _
@@ -82,6 +96,9 @@ module _ (tables : Tables) (sheet : List ℕ) (h : Holds tables sheet) where
       known r (off-or (unknown tables r) (not (ltb q (size (s .ops)))) rest .0))
   ruling-fits s (CommitOne t q) = fits-by (verdictBy (lines tables s (CommitOne t q))) _ (λ a. tt)
   ruling-fits s (AbortOne t q) = fits-by (verdictBy (lines tables s (AbortOne t q))) _ (λ a. tt)
+  ruling-fits s (Spawn m c) =
+      fits-by (verdictBy (lines tables s (Spawn m c))) _
+      (λ a. known m (off-or (unknown tables m) (unknown tables c) (first-off Refused Accepted not-accepted (lines tables s (Spawn m c)) a .0) .0))
 
 -- ---- every place is kept
 
@@ -94,6 +111,8 @@ lengths-after (Ends t p fate) s = (length-entered (s .transactions) t p, length-
 lengths-after (EndsOne q fate) s = (refl, length-rewritten (onlyActive q) (endedAs fate (size (s .ops))) (λ k. refl) (s .ops))
 lengths-after (Makes op) s = (refl, length-made op (s .ops))
 lengths-after (Gives q r) s = (refl, length-rewritten (onlyActive q) (passedTo r) (λ k. refl) (s .ops))
+lengths-after (Hands t m) s = (length-entered (s .transactions) t Committed, length-rewritten (allHeldBy t) (passedTo m) (λ k. refl) (s .ops))
+lengths-after (Spawns m c) s = (length-spawned (s .transactions) m c, refl)
 
 -- and past the accepted operations nothing is put
 past-rewritten : (which : ℕ → Operation → Bool) (how : Operation → Operation) → ((p : ℕ) → which p noOperation ≡ false) → (ops : Ops)
@@ -120,6 +139,8 @@ none-past (Ends t p fate) s none = past-rewritten (allHeldBy t) (endedAs fate (s
 none-past (EndsOne q fate) s none = past-rewritten (onlyActive q) (endedAs fate (size (s .ops))) (λ k. refl) (s .ops) none
 none-past (Makes op) s none = past-made op (s .ops) none
 none-past (Gives q r) s none = past-rewritten (onlyActive q) (passedTo r) (λ k. refl) (s .ops) none
+none-past (Hands t m) s none = past-rewritten (allHeldBy t) (passedTo m) (λ k. refl) (s .ops) none
+none-past (Spawns m c) s none = none
 
 pub judged-whole : (tables : Tables) (s : State) (e : Event) → Whole s → Whole (judged tables s e .state)
 unfolding judged

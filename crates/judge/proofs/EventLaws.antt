@@ -38,11 +38,11 @@ module _ (r : Refusal) where
       peeled Refused Accepted not-accepted same-refusal r l ls
       (λ e. clash (eq-eqb (numberOf (l .refusal)) (numberOf r) (ap numberOf e)) (on-not (eqb (numberOf (l .refusal)) (numberOf r)) n))
 
-  never-given : (ls : List (Line Refusal)) → lacks r ls ≡ true → verdictBy ls ≡ Refused r → ⊥
+  pub never-given : (ls : List (Line Refusal)) → lacks r ls ≡ true → verdictBy ls ≡ Refused r → ⊥
   never-given [] n v = not-accepted r (sym v)
   never-given (l ∷ ls) n v = let both = on-and (hasOther r l) (lacks r ls) n in never-given ls (both .1) (past l ls (both .0) v .1)
 
-  given-by : (xs ys : List (Line Refusal)) (b : Bool) → lacks r xs ≡ true → lacks r ys ≡ true → verdictBy (xs ++ (line r b ∷ ys)) ≡ Refused r → Off xs × (b ≡ true)
+  pub given-by : (xs ys : List (Line Refusal)) (b : Bool) → lacks r xs ≡ true → lacks r ys ≡ true → verdictBy (xs ++ (line r b ∷ ys)) ≡ Refused r → Off xs × (b ≡ true)
   given-by [] ys true n m v = (tt, refl)
   given-by [] ys false n m v = absurd (never-given ys m v)
   given-by (x ∷ xs) ys b n m v =
@@ -81,13 +81,13 @@ module _ (tables : Tables) (s : State) (e : Event) where
     λ w. verdict-lines ∙ ap verdictBy q ∙ off-past Refused Accepted xs (line r b ∷ ys) (w .0) ∙ rw (w .1),
   )
 
-  pub next-ok : judged tables s e .verdict ≡ Accepted → judged tables s e .state ≡ stateAfter (changeOf e) s
+  pub next-ok : judged tables s e .verdict ≡ Accepted → judged tables s e .state ≡ stateAfter (changeOf tables (s .transactions) e) s
   unfolding judged rulingOf
-  next-ok v = ap (λ (x : Verdict). stateAfter (changeBy x (changeOf e)) s) v
+  next-ok v = ap (λ (x : Verdict). stateAfter (changeBy x (changeOf tables (s .transactions) e)) s) v
 
   pub next-no : (r : Refusal) → judged tables s e .verdict ≡ Refused r → judged tables s e .state ≡ s
   unfolding judged rulingOf stateAfter
-  next-no r v = ap (λ (x : Verdict). stateAfter (changeBy x (changeOf e)) s) v
+  next-no r v = ap (λ (x : Verdict). stateAfter (changeBy x (changeOf tables (s .transactions) e)) s) v
 
   -- accepted or refused
   pub by-verdict {ℓ} : {A : Type ℓ} → (judged tables s e .verdict ≡ Accepted → A) → ((r : Refusal) → judged tables s e .verdict ≡ Refused r → A) → A

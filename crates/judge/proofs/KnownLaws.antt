@@ -14,7 +14,7 @@ use Rattle.laws.proofs.Decisions.{lt-or}
 use Rattle.terms.specs.Limits.{mostTransactions}
 use Rattle.terms.specs.Refusals.{numberOf}
 use Rattle.terms.specs.declared.Event.{Event}
-use Rattle.terms.specs.declared.Event.the-variants.{Begin, Commit, Abort, Operation as Invoke, Delegate, CommitOne, AbortOne}
+use Rattle.terms.specs.declared.Event.the-variants.{Begin, Commit, Abort, Operation as Invoke, Delegate, CommitOne, AbortOne, Spawn}
 use Rattle.terms.specs.declared.Refusal.{Refusal}
 use Rattle.terms.specs.declared.Refusal.the-variants.{TooLong, Torn, BadNumber, BadEdition, BadCount, BadDependency, BadCode, NotInTables, NeverDoes, NotIdle, NotActive, NotResponsible, SagaRule, DependencyRule, DirtyRead, OnRing, MustWait, Full, NoRoom, AlreadyEnded, NeverMoves, UndoOnRing}
 use Rattle.terms.specs.declared.Verdict.the-variants.{Refused}
@@ -24,9 +24,12 @@ use Rattle.ties.specs.Ties.{dirtyAt, onRing}
 use Rattle.ties.specs.declared.Ops.{Ops}
 use Rattle.tables.specs.declared.Tables.{Tables}
 use Rattle.rules.specs.declared.State.{State}
-use Rattle.judge.specs.Judge.{judged, lines, singleLines}
+use Rattle.rules.specs.States.{isChild}
+use Rattle.rules.specs.declared.Parent.{Parent}
+use Rattle.judge.specs.Judge.{clerkOf, commitLines, commitLinesUnder, handLines, judged, singleLines, verdictBy}
 use Rattle.judge.specs.Known.{Ringed, withCommitter}
-use Rattle.judge.proofs.EventLaws.{only-line}
+use Rattle.judge.proofs.ClerkLaws.{by-clerk}
+use Rattle.judge.proofs.EventLaws.{given-by, never-given, only-line, verdict-lines}
 
 -- nobody is
 pub none-ringed : (ops : Ops) → Ringed ops 0
@@ -67,11 +70,17 @@ sixteen UndoOnRing e = absurd (omega arith)
 pub committer-ringed : (tables : Tables) (s : State) (e : Event) (set : ℕ) → judged tables s e .verdict ≡ Refused OnRing → Ringed (s .ops) set → Ringed (s .ops) (withCommitter e set)
 committer-ringed tables s (Begin t) set v known = known
 committer-ringed tables s (Commit t) set v known =
-    one-ringed (s .ops) set t known (only-line tables s (Commit t) OnRing (take 5 (lines tables s (Commit t))) [] (onRing (s .ops) t) refl refl refl .0 v .1)
+    one-ringed (s .ops) set t known
+    (by-clerk tables (s .transactions) t
+    (λ (p : Parent). verdictBy (commitLinesUnder tables (s .transactions) (s .ops) t p) ≡ Refused OnRing → onRing (s .ops) t ≡ true)
+    (λ o w. given-by OnRing (take 5 (commitLines tables (s .transactions) (s .ops) t)) [] (onRing (s .ops) t) refl refl w .1)
+    (λ m h w. absurd (never-given OnRing (handLines tables (s .transactions) (s .ops) t m) refl w))
+    (sym (verdict-lines tables s (Commit t)) ∙ v))
 committer-ringed tables s (Abort t) set v known = known
 committer-ringed tables s (Invoke t o m) set v known = known
 committer-ringed tables s (Delegate t r q) set v known = known
 committer-ringed tables s (CommitOne t q) set v known =
-    let before = singleLines tables (s .transactions) (s .ops) t q ++ (line DirtyRead (dirtyAt (s .ops) t q) ∷ []) in
+    let before = singleLines tables (s .transactions) (s .ops) t q (isChild (clerkOf tables (s .transactions) t)) ++ (line DirtyRead (dirtyAt (s .ops) t q) ∷ []) in
     one-ringed (s .ops) set t known (only-line tables s (CommitOne t q) OnRing before [] (onRing (s .ops) t) refl refl refl .0 v .1)
 committer-ringed tables s (AbortOne t q) set v known = known
+committer-ringed tables s (Spawn m c) set v known = known

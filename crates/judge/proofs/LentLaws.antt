@@ -57,9 +57,9 @@ accepted-low n q h =
     omega arith
 
 -- where the lines of a single commit or abort are passed, its operation was accepted
-pub dirty-told : (tables : Tables) (ts : List Transaction) (l : List ℕ) (n t q : ℕ) → verdictBy (singleLines tables ts (opsIn l n) t q) ≡ Accepted
+pub dirty-told : (tables : Tables) (ts : List Transaction) (l : List ℕ) (n t q : ℕ) (never : Bool) → verdictBy (singleLines tables ts (opsIn l n) t q never) ≡ Accepted
     → (ltb q (min n mostOperations) && dirtyAt (opsIn l n) t q) ≡ dirtyAt (opsIn l n) t q
-dirty-told tables ts l n t q e =
-    let off = first-off Refused Accepted not-accepted (singleLines tables ts (opsIn l n) t q) e in
+dirty-told tables ts l n t q never e =
+    let off = first-off Refused Accepted not-accepted (singleLines tables ts (opsIn l n) t q never) e in
     let low = single-known tables (opsIn l n) t q (off .0) in
     rw (lt-ltb q (min n mostOperations) (omega (arith, low, size-in l n)))

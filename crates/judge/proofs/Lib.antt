@@ -1,4 +1,5 @@
 -- Laws of judging.
+pub mod ClerkLaws
 pub mod RuleLaws
 pub mod LentLaws
 pub mod ChangeLaws

@@ -3,7 +3,7 @@ use Prim.Native.Nat.{ℕ}
 use mathlib.Core.Path.{_≡_}
 use mathlib.Core.Bool.{true}
 use Rattle.terms.specs.declared.Event.{Event}
-use Rattle.terms.specs.declared.Event.the-variants.{Begin, Commit, Abort, Operation as Invoke, Delegate, CommitOne, AbortOne}
+use Rattle.terms.specs.declared.Event.the-variants.{Begin, Commit, Abort, Operation as Invoke, Delegate, CommitOne, AbortOne, Spawn}
 use Rattle.sets.specs.Sets.{mem, inserted}
 use Rattle.ties.specs.Ties.{onRing}
 use Rattle.ties.specs.declared.Ops.{Ops}
@@ -21,3 +21,4 @@ withCommitter (Invoke t o m) set = set
 withCommitter (Delegate t r q) set = set
 withCommitter (CommitOne t q) set = inserted set t
 withCommitter (AbortOne t q) set = set
+withCommitter (Spawn m c) set = set

@@ -2,25 +2,26 @@
 use Prim.Native.Nat.{ℕ, _+_, _<_}
 use mathlib.Core.Path.{_≡_}
 use mathlib.Core.Bool.{Bool, true, false, cond}
-use mathlib.Core.Logic.{_↔_}
+use mathlib.Core.Logic.{_↔_, _≢_}
 use mathlib.Core.List.{List, [], _∷_, map}
 use lib.Dec.{eqb}
 use lib.ListN.{length}
 use Rattle.laws.specs.Lines.{FirstIs, Line, Off}
 use Rattle.terms.specs.Refusals.{numberOf}
 use Rattle.terms.specs.declared.Event.{Event}
-use Rattle.terms.specs.declared.Event.the-variants.{Abort, AbortOne, Begin, Commit, CommitOne, Delegate, Operation as Invoke}
+use Rattle.terms.specs.declared.Event.the-variants.{Abort, AbortOne, Begin, Commit, CommitOne, Delegate, Operation as Invoke, Spawn}
 use Rattle.terms.specs.declared.Mark.{Mark}
 use Rattle.terms.specs.declared.Refusal.{Refusal}
 use Rattle.terms.specs.declared.Refusal.the-variants.{NotInTables, NeverDoes, NotIdle, NotActive, NotResponsible, SagaRule, DependencyRule, DirtyRead, OnRing, MustWait, Full, AlreadyEnded, UndoOnRing}
 use Rattle.terms.specs.declared.Verdict.the-variants.{Accepted, Refused}
-use Rattle.ties.specs.Operations.{mostOperations, opAt}
+use Rattle.ties.specs.Operations.{heldBy, mostOperations, opAt, passedTo, size}
 use Rattle.ties.specs.declared.Fate.the-variants.{Active as FateActive}
 use Rattle.tables.specs.declared.Tables.{Tables}
-use Rattle.rules.specs.States.{phaseOf}
+use Rattle.rules.specs.States.{parentOf, phaseOf}
+use Rattle.rules.specs.declared.Parent.the-variants.{Under}
 use Rattle.rules.specs.declared.Phase.the-variants.{Aborted, Active, Committed}
 use Rattle.rules.specs.declared.State.{State}
-use Rattle.judge.specs.Judge.{judged, lines}
+use Rattle.judge.specs.Judge.{clerkOf, judged, lines}
 
 -- one event, in any state
 pub record OneEvent (tables : Tables) (s : State) (e : Event) : Type 0 where
@@ -65,6 +66,10 @@ pub record Does (tables : Tables) (s : State) : Type 0 where
   pub invokes : (t o : ℕ) (m : Mark) → length (s .ops .all) ≡ mostOperations → judged tables s (Invoke t o m) .verdict ≡ Accepted
       → (opAt (judged tables s (Invoke t o m) .state .ops) (s .ops .count) ≡ record { object = o; mark = m; responsible = t; fate = FateActive; ended = 0 })
       × (judged tables s (Invoke t o m) .state .ops .count ≡ s .ops .count + 1)
+  -- spawn: the child is active, under its parent
+  pub spawns : (m c : ℕ) → c < length (s .transactions) → judged tables s (Spawn m c) .verdict ≡ Accepted
+      → (phaseOf (judged tables s (Spawn m c) .state .transactions) c ≡ Active)
+      × (parentOf (judged tables s (Spawn m c) .state .transactions) c ≡ Under m)
 
 -- ---- what an event does not name stays
 
@@ -92,15 +97,31 @@ namesOf s (Invoke t o m) = record { transaction = nothing; operation = one (s .o
 namesOf s (Delegate t r q) = record { transaction = nothing; operation = one q; makes = false }
 namesOf s (CommitOne t q) = record { transaction = nothing; operation = one q; makes = false }
 namesOf s (AbortOne t q) = record { transaction = nothing; operation = one q; makes = false }
+namesOf s (Spawn m c) = record { transaction = one c; operation = nothing; makes = false }
 
 -- from one state to the next all else stays
 pub record Frame (n : Names) (s next : State) : Type 0 where
   pub phases : (t : ℕ) → n .transaction t ≡ false → phaseOf (next .transactions) t ≡ phaseOf (s .transactions) t
+  pub parents : (t : ℕ) → n .transaction t ≡ false → parentOf (next .transactions) t ≡ parentOf (s .transactions) t
   pub operations : (q : ℕ) → n .operation q ≡ false → opAt (next .ops) q ≡ opAt (s .ops) q
   pub count : n .makes ≡ false → next .ops .count ≡ s .ops .count
+
+-- ---- the commit of a child, m's
+
+pub record Helpers (tables : Tables) (s : State) : Type 0 where
+  -- "Its commit hands its active operations to the parent instead of ending them", and no others
+  pub hands : (t m : ℕ) → clerkOf tables (s .transactions) t ≡ Under m → judged tables s (Commit t) .verdict ≡ Accepted
+      → (q : ℕ) → q < size (s .ops)
+      → opAt (judged tables s (Commit t) .state .ops) q ≡ cond (heldBy t (opAt (s .ops) q)) (passedTo m (opAt (s .ops) q)) (opAt (s .ops) q)
+  -- "so 15 and 16 aren't judged then"
+  pub clean : (t m : ℕ) → clerkOf tables (s .transactions) t ≡ Under m
+      → (judged tables s (Commit t) .verdict ≢ Refused DirtyRead) × (judged tables s (Commit t) .verdict ≢ Refused OnRing)
+  -- no child commits one of its operations
+  pub no-single : (t m q : ℕ) → clerkOf tables (s .transactions) t ≡ Under m → judged tables s (CommitOne t q) .verdict ≢ Accepted
 
 pub record EventPromises : Type 0 where
   pub one-event : (tables : Tables) (s : State) (e : Event) → OneEvent tables s e
   pub does : (tables : Tables) (s : State) → Does tables s
+  pub helpers : (tables : Tables) (s : State) → Helpers tables s
   pub frame : (tables : Tables) (s : State) (e : Event) → Frame (namesOf s e) s (judged tables s e .state)
   pub judging-order : JudgingOrder

@@ -1,5 +1,6 @@
 // Judging one event of a book: accepted, or refused by the first line that holds. How everything stands is kept in numbers that the caller lends, and an
 // accepted event changes them where they stand.
+use rules::Parent;
 use rules::Phase;
 use rules::State;
 use sheet::Sheet;
@@ -11,13 +12,13 @@ use terms::Verdict;
 use ties::Fate;
 use ties::Operation;
 ghost use mathlib.Core.Path.{_≡_};
-ghost use mathlib.Core.Bool.{not, _&&_};
+ghost use mathlib.Core.Bool.{false, not, _&&_};
 ghost use Prim.Native.Nat.{ℕ, _<_, min};
 ghost use lib.Dec.{ltb, eqb};
 ghost use Rattle.terms.specs.Limits.{mostObjects};
-ghost use Rattle.terms.specs.declared.Event.the-variants.{Begin, Commit, Abort, Operation as Invoke, Delegate, CommitOne, AbortOne};
+ghost use Rattle.terms.specs.declared.Event.the-variants.{Begin, Commit, Abort, Operation as Invoke, Delegate, CommitOne, AbortOne, Spawn};
 ghost use Rattle.ties.specs.Operations.{mostOperations, opAt, isActive as isActiveOperation};
-ghost use Rattle.ties.specs.Ties.{onRing, beforeMade, beforeGiven, ringWith, mustWait};
+ghost use Rattle.ties.specs.Ties.{onRing, beforeMade, beforeGiven, beforeHanded, ringWith, mustWait};
 ghost use Rattle.cells.specs.Cells.{opsIn};
 ghost use Rattle.tables.specs.declared.Tables.{Tables};
 ghost use Rattle.tables.specs.Sorts.{isKnown, isSaga, isUndo, isPlain};
@@ -25,12 +26,13 @@ ghost use Rattle.sheet.specs.Sheet.{Holds, sortAt, objectsOn};
 ghost use Rattle.rules.specs.Lent.{transactionsIn};
 ghost use Rattle.rules.specs.Rules.{inactive, beginBarred, commitBarred, abortBarred, activeUndo};
 ghost use Rattle.rules.specs.States.{isIdle, phaseOf};
+ghost use Rattle.rules.specs.declared.Parent.the-variants.{Nobody, Under};
 ghost use Rattle.judge.specs.Known.{Ringed, withCommitter};
 ghost use Rattle.judge.specs.Lent.{stateIn, Whole, Fitting};
-ghost use Rattle.judge.specs.Judge.{beginLines, commitLines, abortLines, operationLines, delegateLines, singleLines, commitOneLines, verdictBy, noParty, changeOf, ruledBy, refusedBy, acceptedBy, rulingOf, stateAfter, judged};
+ghost use Rattle.judge.specs.Judge.{beginLines, commitLines, handLines, abortLines, operationLines, delegateLines, singleLines, commitOneLines, spawnLines, verdictBy, noParty, clerkOf, awaitsChild, commitUnder, changeOf, ruledBy, refusedBy, acceptedBy, rulingOf, stateAfter, judged};
 
 // What an accepted event changes: a transaction enters a phase; or ends, and its operations with it; an operation ends alone; is made;
-// or given.
+// or given; a helper commits, and what it is at work on is handed to its clerk; or a clerk spawns a helper.
 pub enum Change {
     Nothing,
     Enters(usize, Phase),
@@ -38,6 +40,8 @@ pub enum Change {
     EndsOne(usize, Fate),
     Makes(Operation),
     Gives(usize, u16),
+    Hands(usize, u16),
+    Spawns(usize, usize),
 }
 
 // The verdict on an event, and what it changes.
@@ -171,6 +175,43 @@ fn already_ended(ops: &[u32; Operation::MOST], q: usize) -> bool
     !fate.is_active()
 }
 
+// Whose helper t is; only plain transactions are helpers and have them.
+fn clerk_of(
+    sheet: &[u32; Sheet::NUMBERS],
+    transactions: &[u32; Book::TRANSACTIONS],
+    t: usize,
+) -> Parent
+    ensures { λ r. ⌜ ((tables : Tables) → Holds tables (now (sheet .entry)) → r ≡ clerkOf tables (transactionsIn (now (transactions .entry))) t) ⌝ }
+{
+    if not_plain(sheet, t) {
+        return Parent::Nobody;
+    }
+    let parent = rules::parent_at(transactions, t);
+    match parent {
+        Parent::Nobody => Parent::Nobody,
+        Parent::Under(m) => {
+            if not_plain(sheet, m as usize) {
+                return Parent::Nobody;
+            }
+            Parent::Under(m)
+        }
+    }
+}
+
+// A helper of t's own is still at work.
+fn awaits_child(
+    sheet: &[u32; Sheet::NUMBERS],
+    transactions: &[u32; Book::TRANSACTIONS],
+    t: usize,
+) -> bool
+    ensures { λ r. ⌜ ((tables : Tables) → Holds tables (now (sheet .entry)) → r ≡ awaitsChild tables (transactionsIn (now (transactions .entry))) t) ⌝ }
+{
+    if not_plain(sheet, t) {
+        return false;
+    }
+    rules::child_active(transactions, t)
+}
+
 // The operation is an undo's, which has to wait for another's that is active.
 fn must_wait(
     sheet: &[u32; Sheet::NUMBERS],
@@ -227,6 +268,24 @@ fn gives_a_ring(
     rows::ring_given(ops, n, q, receiver, undos)
 }
 
+// All that t is at work on, if it is handed to m, puts an active undo on a ring.
+fn hands_a_ring(
+    sheet: &[u32; Sheet::NUMBERS],
+    transactions: &[u32; Book::TRANSACTIONS],
+    ops: &[u32; Operation::MOST],
+    n: usize,
+    t: usize,
+    m: u16,
+) -> bool
+    ensures { λ r. ⌜ ((tables : Tables) → Holds tables (now (sheet .entry)) → r ≡ ringWith (beforeHanded (opsIn (now (ops .entry)) n) t m) (activeUndo tables (transactionsIn (now (transactions .entry)))) m) ⌝ }
+{
+    let undos = rules::active_undos(sheet, transactions);
+    if undos == 0 {
+        return false;
+    }
+    rows::ring_handed(ops, n, t, m, undos)
+}
+
 // Whether t is on a ring, where some are known to be.
 fn is_ringed(ops: &[u32; Operation::MOST], n: usize, t: usize, ringed: u64) -> bool
     ensures { λ r. ⌜ (Ringed (opsIn (now (ops .entry)) n) ringed → r ≡ onRing (opsIn (now (ops .entry)) n) t) ⌝ }
@@ -263,7 +322,7 @@ fn begin(
     transactions: &[u32; Book::TRANSACTIONS],
     t: usize,
 ) -> Ruling
-    ensures { λ r. ⌜ ((tables : Tables) → Holds tables (now (sheet .entry)) → r ≡ ruledBy (beginLines tables (transactionsIn (now (transactions .entry))) t) (changeOf (Begin t))) ⌝ }
+    ensures { λ r. ⌜ ((tables : Tables) → Holds tables (now (sheet .entry)) → r ≡ ruledBy (beginLines tables (transactionsIn (now (transactions .entry))) t) (changeOf tables (transactionsIn (now (transactions .entry))) (Begin t))) ⌝ }
 {
     if unknown(sheet, t) {
         return refused(Refusal::NotInTables);
@@ -280,7 +339,8 @@ fn begin(
     accepted(Change::Enters(t, Phase::Active))
 }
 
-fn commit(
+// The commit of one who is nobody's helper.
+fn commit_own(
     sheet: &[u32; Sheet::NUMBERS],
     transactions: &[u32; Book::TRANSACTIONS],
     ops: &[u32; Operation::MOST],
@@ -288,7 +348,7 @@ fn commit(
     t: usize,
     ringed: u64,
 ) -> Ruling
-    ensures { λ r. ⌜ ((tables : Tables) → Holds tables (now (sheet .entry)) → Ringed (opsIn (now (ops .entry)) n) ringed → r ≡ ruledBy (commitLines tables (transactionsIn (now (transactions .entry))) (opsIn (now (ops .entry)) n) t) (changeOf (Commit t))) ⌝ }
+    ensures { λ r. ⌜ ((tables : Tables) → Holds tables (now (sheet .entry)) → Ringed (opsIn (now (ops .entry)) n) ringed → r ≡ ruledBy (commitLines tables (transactionsIn (now (transactions .entry))) (opsIn (now (ops .entry)) n) t) (commitUnder t Nobody)) ⌝ }
 {
     if unknown(sheet, t) {
         return refused(Refusal::NotInTables);
@@ -299,7 +359,7 @@ fn commit(
     if commit_forbidden(sheet, transactions, t) {
         return refused(Refusal::SagaRule);
     }
-    if rules::declared_bars(false, sheet, transactions, t) {
+    if rules::declared_bars(false, sheet, transactions, t) | awaits_child(sheet, transactions, t) {
         return refused(Refusal::DependencyRule);
     }
     if cells::dirty(ops, n, t) {
@@ -311,12 +371,57 @@ fn commit(
     accepted(Change::Ends(t, Phase::Committed, Fate::Committed))
 }
 
+// The commit of m's helper: m answers for what it is at work on.
+fn hand_over(
+    sheet: &[u32; Sheet::NUMBERS],
+    transactions: &[u32; Book::TRANSACTIONS],
+    ops: &[u32; Operation::MOST],
+    n: usize,
+    t: usize,
+    m: u16,
+) -> Ruling
+    ensures { λ r. ⌜ ((tables : Tables) → Holds tables (now (sheet .entry)) → r ≡ ruledBy (handLines tables (transactionsIn (now (transactions .entry))) (opsIn (now (ops .entry)) n) t m) (commitUnder t (Under m))) ⌝ }
+{
+    if unknown(sheet, t) {
+        return refused(Refusal::NotInTables);
+    }
+    if inactive(transactions, t) {
+        return refused(Refusal::NotActive);
+    }
+    if rules::declared_bars(false, sheet, transactions, t)
+        | (awaits_child(sheet, transactions, t) | inactive(transactions, m as usize))
+    {
+        return refused(Refusal::DependencyRule);
+    }
+    if hands_a_ring(sheet, transactions, ops, n, t, m) {
+        return refused(Refusal::UndoOnRing);
+    }
+    accepted(Change::Hands(t, m))
+}
+
+fn commit(
+    sheet: &[u32; Sheet::NUMBERS],
+    transactions: &[u32; Book::TRANSACTIONS],
+    ops: &[u32; Operation::MOST],
+    n: usize,
+    t: usize,
+    ringed: u64,
+) -> Ruling
+    ensures { λ r. ⌜ ((tables : Tables) → Holds tables (now (sheet .entry)) → Ringed (opsIn (now (ops .entry)) n) ringed → r ≡ rulingOf tables (stateIn (now (transactions .entry)) (now (ops .entry)) n) (Commit t)) ⌝ }
+{
+    let clerk = clerk_of(sheet, transactions, t);
+    match clerk {
+        Parent::Nobody => commit_own(sheet, transactions, ops, n, t, ringed),
+        Parent::Under(m) => hand_over(sheet, transactions, ops, n, t, m),
+    }
+}
+
 fn abort(
     sheet: &[u32; Sheet::NUMBERS],
     transactions: &[u32; Book::TRANSACTIONS],
     t: usize,
 ) -> Ruling
-    ensures { λ r. ⌜ ((tables : Tables) → Holds tables (now (sheet .entry)) → r ≡ ruledBy (abortLines tables (transactionsIn (now (transactions .entry))) t) (changeOf (Abort t))) ⌝ }
+    ensures { λ r. ⌜ ((tables : Tables) → Holds tables (now (sheet .entry)) → r ≡ ruledBy (abortLines tables (transactionsIn (now (transactions .entry))) t) (changeOf tables (transactionsIn (now (transactions .entry))) (Abort t))) ⌝ }
 {
     if unknown(sheet, t) {
         return refused(Refusal::NotInTables);
@@ -342,7 +447,7 @@ fn operation(
     object: usize,
     mark: Mark,
 ) -> Ruling
-    ensures { λ r. ⌜ ((tables : Tables) → Holds tables (now (sheet .entry)) → r ≡ ruledBy (operationLines tables (transactionsIn (now (transactions .entry))) (opsIn (now (ops .entry)) n) t object mark) (changeOf (Invoke t object mark))) ⌝ }
+    ensures { λ r. ⌜ ((tables : Tables) → Holds tables (now (sheet .entry)) → r ≡ ruledBy (operationLines tables (transactionsIn (now (transactions .entry))) (opsIn (now (ops .entry)) n) t object mark) (changeOf tables (transactionsIn (now (transactions .entry))) (Invoke t object mark))) ⌝ }
 {
     if unknown(sheet, t) | unknown_object(sheet, object) {
         return refused(Refusal::NotInTables);
@@ -381,7 +486,7 @@ fn delegate(
     receiver: usize,
     q: usize,
 ) -> Ruling
-    ensures { λ r. ⌜ ((tables : Tables) → Holds tables (now (sheet .entry)) → r ≡ ruledBy (delegateLines tables (transactionsIn (now (transactions .entry))) (opsIn (now (ops .entry)) n) t receiver q) (changeOf (Delegate t receiver q))) ⌝ }
+    ensures { λ r. ⌜ ((tables : Tables) → Holds tables (now (sheet .entry)) → r ≡ ruledBy (delegateLines tables (transactionsIn (now (transactions .entry))) (opsIn (now (ops .entry)) n) t receiver q) (changeOf tables (transactionsIn (now (transactions .entry))) (Delegate t receiver q))) ⌝ }
 {
     if unknown(sheet, t) | (unknown(sheet, receiver) | not_accepted(n, q)) {
         return refused(Refusal::NotInTables);
@@ -402,7 +507,7 @@ fn delegate(
     accepted(Change::Gives(q, to))
 }
 
-// What the commit and the abort of one operation both have to pass: a plain and active transaction, and an active operation of its own.
+// What the commit and the abort of one operation both have to pass: a plain and active transaction that may do it, and an active operation of its own.
 fn single(
     sheet: &[u32; Sheet::NUMBERS],
     transactions: &[u32; Book::TRANSACTIONS],
@@ -410,13 +515,14 @@ fn single(
     n: usize,
     t: usize,
     q: usize,
+    never: bool,
 ) -> Verdict
-    ensures { λ r. ⌜ ((tables : Tables) → Holds tables (now (sheet .entry)) → r ≡ verdictBy (singleLines tables (transactionsIn (now (transactions .entry))) (opsIn (now (ops .entry)) n) t q)) ⌝ }
+    ensures { λ r. ⌜ ((tables : Tables) → Holds tables (now (sheet .entry)) → r ≡ verdictBy (singleLines tables (transactionsIn (now (transactions .entry))) (opsIn (now (ops .entry)) n) t q never)) ⌝ }
 {
     if unknown(sheet, t) | not_accepted(n, q) {
         return Verdict::Refused(Refusal::NotInTables);
     }
-    if not_plain(sheet, t) {
+    if not_plain(sheet, t) | never {
         return Verdict::Refused(Refusal::NeverDoes);
     }
     if inactive(transactions, t) {
@@ -440,9 +546,11 @@ fn commit_one(
     q: usize,
     ringed: u64,
 ) -> Ruling
-    ensures { λ r. ⌜ ((tables : Tables) → Holds tables (now (sheet .entry)) → Ringed (opsIn (now (ops .entry)) n) ringed → r ≡ ruledBy (commitOneLines tables (transactionsIn (now (transactions .entry))) (opsIn (now (ops .entry)) n) t q) (changeOf (CommitOne t q))) ⌝ }
+    ensures { λ r. ⌜ ((tables : Tables) → Holds tables (now (sheet .entry)) → Ringed (opsIn (now (ops .entry)) n) ringed → r ≡ ruledBy (commitOneLines tables (transactionsIn (now (transactions .entry))) (opsIn (now (ops .entry)) n) t q) (changeOf tables (transactionsIn (now (transactions .entry))) (CommitOne t q))) ⌝ }
 {
-    let allowed = single(sheet, transactions, ops, n, t, q);
+    let clerk = clerk_of(sheet, transactions, t);
+    let child = clerk.is_child();
+    let allowed = single(sheet, transactions, ops, n, t, q, child);
     let Verdict::Accepted = allowed else {
         return Ruling {
             verdict: allowed,
@@ -466,9 +574,9 @@ fn abort_one(
     t: usize,
     q: usize,
 ) -> Ruling
-    ensures { λ r. ⌜ ((tables : Tables) → Holds tables (now (sheet .entry)) → r ≡ ruledBy (singleLines tables (transactionsIn (now (transactions .entry))) (opsIn (now (ops .entry)) n) t q) (changeOf (AbortOne t q))) ⌝ }
+    ensures { λ r. ⌜ ((tables : Tables) → Holds tables (now (sheet .entry)) → r ≡ ruledBy (singleLines tables (transactionsIn (now (transactions .entry))) (opsIn (now (ops .entry)) n) t q false) (changeOf tables (transactionsIn (now (transactions .entry))) (AbortOne t q))) ⌝ }
 {
-    let allowed = single(sheet, transactions, ops, n, t, q);
+    let allowed = single(sheet, transactions, ops, n, t, q, false);
     let Verdict::Accepted = allowed else {
         return Ruling {
             verdict: allowed,
@@ -476,6 +584,33 @@ fn abort_one(
         };
     };
     accepted(Change::EndsOne(q, Fate::Aborted))
+}
+
+// A clerk m spawns a helper c.
+fn spawn(
+    sheet: &[u32; Sheet::NUMBERS],
+    transactions: &[u32; Book::TRANSACTIONS],
+    m: usize,
+    c: usize,
+) -> Ruling
+    ensures { λ r. ⌜ ((tables : Tables) → Holds tables (now (sheet .entry)) → r ≡ ruledBy (spawnLines tables (transactionsIn (now (transactions .entry))) m c) (changeOf tables (transactionsIn (now (transactions .entry))) (Spawn m c))) ⌝ }
+{
+    if unknown(sheet, m) | unknown(sheet, c) {
+        return refused(Refusal::NotInTables);
+    }
+    if not_plain(sheet, m) | not_plain(sheet, c) {
+        return refused(Refusal::NeverDoes);
+    }
+    if not_idle(transactions, c) {
+        return refused(Refusal::NotIdle);
+    }
+    if inactive(transactions, m) {
+        return refused(Refusal::NotActive);
+    }
+    if rules::declared_bars(true, sheet, transactions, c) {
+        return refused(Refusal::DependencyRule);
+    }
+    accepted(Change::Spawns(m, c))
 }
 
 // The verdict on an event and what it would change, where some transactions are known to be on a ring. It holds of the tables that the sheet was made of.
@@ -499,6 +634,7 @@ fn rule_knowing(
         Event::Delegate(t, receiver, q) => delegate(sheet, transactions, ops, n, t, receiver, q),
         Event::CommitOne(t, q) => commit_one(sheet, transactions, ops, n, t, q, ringed),
         Event::AbortOne(t, q) => abort_one(sheet, transactions, ops, n, t, q),
+        Event::Spawn(m, c) => spawn(sheet, transactions, m, c),
     }
 }
 
@@ -542,6 +678,15 @@ fn changed(
         Change::Makes(op) => cells::made(ops, n, op),
         Change::Gives(q, receiver) => {
             cells::given(ops, n, q, receiver);
+            n
+        }
+        Change::Hands(t, m) => {
+            rules::enters(transactions, t, Phase::Committed);
+            cells::handed(ops, n, t, m);
+            n
+        }
+        Change::Spawns(m, c) => {
+            rules::spawns(transactions, m, c);
             n
         }
     }
@@ -591,6 +736,7 @@ pub fn with_committer(event: Event, set: u64) -> u64
         Event::Delegate(_, _, _) => set,
         Event::CommitOne(t, _) => sets::with_member(set, t),
         Event::AbortOne(_, _) => set,
+        Event::Spawn(_, _) => set,
     }
 }
 

@@ -13,7 +13,7 @@ use Rattle.laws.proofs.Bools.{and-off, clash, not-on, on-not}
 use Rattle.laws.proofs.Decisions.{lt-or}
 use Rattle.terms.specs.Limits.{mostSagas, mostTransactions}
 use Rattle.terms.specs.declared.Event.{Event}
-use Rattle.terms.specs.declared.Event.the-variants.{Abort, AbortOne, Begin, Commit, CommitOne, Delegate, Operation as Invoke}
+use Rattle.terms.specs.declared.Event.the-variants.{Abort, AbortOne, Begin, Commit, CommitOne, Delegate, Operation as Invoke, Spawn}
 use Rattle.tables.specs.Accepted.{Well}
 use Rattle.tables.specs.Counts.{sagaCount}
 use Rattle.tables.specs.Reading.{tablesBy}
@@ -65,6 +65,7 @@ own-kept tables s (Invoke t o m) f n h k l = event-promises .frame tables s (Inv
 own-kept tables s (Delegate t r q) f n h k l = event-promises .frame tables s (Delegate t r q) .phases (f + k) refl
 own-kept tables s (CommitOne t q) f n h k l = event-promises .frame tables s (CommitOne t q) .phases (f + k) refl
 own-kept tables s (AbortOne t q) f n h k l = event-promises .frame tables s (AbortOne t q) .phases (f + k) refl
+own-kept tables s (Spawn m c) f n h k l = event-promises .frame tables s (Spawn m c) .phases (f + k) (apart f n c k h l)
 
 unlisted : (tables : Tables) (s : State) (i : ℕ) → tables .sagas ≤ i → outstanding tables s i ≡ 0
 unfolding outstanding
@@ -147,6 +148,7 @@ module _ (tables : Tables) (well : Well tables) where
   event s (Delegate t r q) = still s (Delegate t r q) (λ j. refl)
   event s (CommitOne t q) = still s (CommitOne t q) (λ j. refl)
   event s (AbortOne t q) = still s (AbortOne t q) (λ j. refl)
+  event s (Spawn m c) = by-its-sort s (Spawn m c) c (λ f n. refl)
 
   later : (es : List Event) (s : State) → leftAfter tables s (leftIn tables s) es ≡ leftIn tables (run tables s es)
   unfolding leftAfter run

@@ -119,6 +119,7 @@ fn moves_on(sheet: &[u32; Sheet::NUMBERS], event: Event) -> Sort
         Event::Delegate(_, _, _) => Sort::Unknown,
         Event::CommitOne(_, _) => Sort::Unknown,
         Event::AbortOne(_, _) => Sort::Unknown,
+        Event::Spawn(_, c) => sheet::sort_at(sheet, c),
     }
 }
 

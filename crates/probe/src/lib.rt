@@ -26,7 +26,8 @@ fn event_by(code: u64, a: usize, b: usize, c: usize) -> Event
         4 => Event::Operation(a, b, Mark::Write),
         5 => Event::Delegate(a, b, c),
         6 => Event::CommitOne(a, b),
-        _ => Event::AbortOne(a, b),
+        7 => Event::AbortOne(a, b),
+        _ => Event::Spawn(a, b),
     }
 }
 

@@ -12,7 +12,7 @@ use Rattle.laws.proofs.Bools.{bool-cases, clash, on-and}
 use Rattle.laws.proofs.Decisions.{same-or}
 use Rattle.terms.specs.Limits.{mostTransactions}
 use Rattle.terms.specs.declared.Event.{Event}
-use Rattle.terms.specs.declared.Event.the-variants.{Abort, AbortOne, Begin, Commit, CommitOne, Delegate, Operation as Invoke}
+use Rattle.terms.specs.declared.Event.the-variants.{Abort, AbortOne, Begin, Commit, CommitOne, Delegate, Operation as Invoke, Spawn}
 use Rattle.terms.specs.declared.Verdict.the-variants.{Accepted}
 use Rattle.sets.specs.Reach.{Leads, leadsTo}
 use Rattle.sets.proofs.ReachLaws.{AddsAt}
@@ -26,13 +26,15 @@ use Rattle.ties.proofs.RingLaws.{leads-of, leads-ring, of-leads}
 use Rattle.tables.specs.declared.Tables.{Tables}
 use Rattle.rules.specs.States.{emptyState}
 use Rattle.rules.specs.declared.State.{State}
-use Rattle.judge.specs.Judge.{changeOf, judged, stateAfter}
+use Rattle.judge.specs.Judge.{changeOf, commitUnder, judged, stateAfter}
 use Rattle.judge.proofs.EventLaws.{lines-off}
 use Rattle.histories.specs.Histories.{reached}
 use Rattle.histories.proofs.Invariants.{lasting-kept, lasting-start}
 use Rattle.histories.proofs.Lasts.{Lasting}
 use Rattle.histories.proofs.RunLaws.{keeps}
-use Rattle.histories.proofs.Steps.{commit-one-may, ending, step}
+use Rattle.histories.proofs.Steps.{commit-ending, commit-one-may, step}
+use Rattle.judge.proofs.ClerkLaws.{by-clerk}
+use Rattle.rules.specs.declared.Parent.{Parent}
 use Rattle.replay.specs.Replay.{comesBefore}
 use Rattle.replay.proofs.KeptChanges.{Unmoved, committed-ties, made-unmoved, rewritten-by, rewritten-unmoved, unmoved-ties}
 use Rattle.replay.proofs.KeptTies.{comes-stands, tie-of}
@@ -138,13 +140,19 @@ chosen-active : (q p : ℕ) (op : Operation) → onlyActive q p op ≡ true → 
 chosen-active q p op h = on-and (isActive (op .fate)) (eqb p q) h .0
 
 module _ (tables : Tables) (s : State) (i : Ordered s) where
-  ranked-kept : (e : Event) → judged tables s e .verdict ≡ Accepted → Ranked (comesBefore (stateAfter (changeOf e) s .ops))
+  ranked-kept : (e : Event) → judged tables s e .verdict ≡ Accepted → Ranked (comesBefore (stateAfter (changeOf tables (s .transactions) e) s .ops))
   unfolding stateAfter
   ranked-kept (Begin t) v = i .ranked
   ranked-kept (Commit t) v =
+      by-clerk tables (s .transactions) t (λ (p : Parent). Ranked (comesBefore (stateAfter (commitUnder t p) s .ops)))
+      (λ own.
       ranked-committed (s .ops) t (allHeldBy t) (held-active t)
       (λ p h. eqb-true (opAt (s .ops) p .responsible) t (on-and (isActive (opAt (s .ops) p .fate)) (eqb (opAt (s .ops) p .responsible) t) h .1))
-      (ending tables s (step tables s (Commit t) v) .rule .3) (i .ranked)
+      (commit-ending tables s t own v .rule .3) (i .ranked))
+      (λ m h.
+      ranked-unmoved (s .ops) (rewritten (allHeldBy t) (passedTo m) (s .ops))
+      (rewritten-unmoved (allHeldBy t) (passedTo m) (λ p. refl) (s .ops)
+      (λ p k. active-uncommitted (opAt (s .ops) p .fate) (held-active t p (opAt (s .ops) p) k))) (i .ranked))
   ranked-kept (Abort t) v =
       ranked-unmoved (s .ops) (rewritten (allHeldBy t) (endedAs Aborted (size (s .ops))) (s .ops))
       (rewritten-unmoved (allHeldBy t) (endedAs Aborted (size (s .ops))) (λ p. refl) (s .ops) (λ p h. refl)) (i .ranked)
@@ -161,9 +169,10 @@ module _ (tables : Tables) (s : State) (i : Ordered s) where
   ranked-kept (AbortOne t q) v =
       ranked-unmoved (s .ops) (rewritten (onlyActive q) (endedAs Aborted (size (s .ops))) (s .ops))
       (rewritten-unmoved (onlyActive q) (endedAs Aborted (size (s .ops))) (λ p. refl) (s .ops) (λ p h. refl)) (i .ranked)
+  ranked-kept (Spawn m c) v = i .ranked
 
-  ordered-kept : (e : Event) → judged tables s e .verdict ≡ Accepted → Ordered (stateAfter (changeOf e) s)
-  ordered-kept e v = record { lasts = lasting-kept tables s (changeOf e) (i .lasts) (step tables s e v); ranked = ranked-kept e v }
+  ordered-kept : (e : Event) → judged tables s e .verdict ≡ Accepted → Ordered (stateAfter (changeOf tables (s .transactions) e) s)
+  ordered-kept e v = record { lasts = lasting-kept tables s (changeOf tables (s .transactions) e) (i .lasts) (step tables s e v); ranked = ranked-kept e v }
 
 ordered-start : Ordered emptyState
 ordered-start =

@@ -10,17 +10,24 @@ use Rattle.laws.specs.Index.{anyBelow}
 use Rattle.terms.specs.Limits.{mostTransactions, mostObjects}
 use Rattle.terms.specs.Events.{isWrite}
 use Rattle.sets.specs.Sets.{mem}
-use Rattle.ties.specs.Operations.{mostOperations}
+use Rattle.ties.specs.Operations.{heldBy, mostOperations, passedTo}
 use Rattle.ties.specs.Ties.{isGone, edge}
 use Rattle.ties.specs.declared.Operation.{Operation}
 use Rattle.cells.specs.Cells.{opIn}
 
--- the operations that lent numbers stand for, and the same with x read at one place
+-- the operations that lent numbers stand for, and the same with some handed over and x read at one place
 abbrev pub readAt : List ℕ → ℕ → Operation
 readAt cells i = opIn (getD cells i 0)
 
-abbrev pub readWith : List ℕ → ℕ → Operation → ℕ → Operation
-readWith cells at x i = cond (eqb i at) x (readAt cells i)
+-- an operation once a giver has handed all that it is at work on to a receiver; nobody has the number 64
+abbrev pub handedBy : ℕ → ℕ → Operation → Operation
+handedBy giver receiver op = cond (heldBy giver op) (passedTo receiver op) op
+
+abbrev pub readHanded : List ℕ → ℕ → ℕ → ℕ → Operation
+readHanded cells giver receiver i = handedBy giver receiver (readAt cells i)
+
+abbrev pub readWith : List ℕ → ℕ → ℕ → ℕ → Operation → ℕ → Operation
+readWith cells giver receiver at x i = cond (eqb i at) x (readHanded cells giver receiver i)
 
 -- there is room for so many operations, but for the one that is read at this place
 abbrev pub Lent : ℕ → ℕ → Type 0

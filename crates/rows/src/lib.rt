@@ -10,9 +10,9 @@ ghost use Prim.Native.Nat.{ℕ, _≤_, _<_};
 ghost use Rattle.terms.specs.Events.{isWrite};
 ghost use Rattle.sets.specs.Sets.{mem, inserted};
 ghost use Rattle.ties.specs.Operations.{mostOperations, givenTo};
-ghost use Rattle.ties.specs.Ties.{tiesOf, beforeMade, beforeGiven, ringWith};
+ghost use Rattle.ties.specs.Ties.{tiesOf, beforeMade, beforeGiven, beforeHanded, ringWith};
 ghost use Rattle.cells.specs.Cells.{opsIn};
-ghost use Rattle.rows.specs.Rows.{readAt, readWith, Lent, memAt, Led, SweepsOne, SweepsOver};
+ghost use Rattle.rows.specs.Rows.{handedBy, readAt, readHanded, readWith, Lent, memAt, Led, SweepsOne, SweepsOver};
 
 // Of those who use an object later and those who write it later, the ones that an operation of this mark is tied to: two reads are not.
 fn tied_later(mark: Mark, users: u64, writers: u64) -> u64
@@ -60,9 +60,21 @@ pub fn sweep_one(
     writers[o] = with_writer(mark, written, a);
 }
 
-// The operations from one number up to another, met from the last down.
+// An operation once a giver has handed all that it is at work on to a receiver.
+fn handed_by(giver: usize, receiver: u16, op: Operation) -> Operation
+    ensures { λ r. ⌜ r ≡ handedBy giver receiver op ⌝ }
+{
+    if op.held_by(giver) {
+        return op.passed_to(receiver);
+    }
+    op
+}
+
+// The operations from one number up to another, with those of a giver handed over, met from the last down.
 fn sweep(
     ops: &[u32; Operation::MOST],
+    giver: usize,
+    receiver: u16,
     from: usize,
     to: usize,
     users: &mut [u64; Book::OBJECTS],
@@ -70,36 +82,66 @@ fn sweep(
     rows: &mut [u64; Book::TRANSACTIONS],
 )
     requires { ⌜ (from ≤ to) × ((i : ℕ) → from ≤ i → i < to → i < mostOperations) ⌝ }
-    ensures { λ _. ⌜ SweepsOver (readAt (now (ops .entry))) from to (now (users .entry)) (now (writers .entry)) (now (rows .entry)) (now (users .exit)) (now (writers .exit)) (now (rows .exit)) ⌝ }
+    ensures { λ _. ⌜ SweepsOver (readHanded (now (ops .entry)) giver receiver) from to (now (users .entry)) (now (writers .entry)) (now (rows .entry)) (now (users .exit)) (now (writers .exit)) (now (rows .exit)) ⌝ }
 {
     let mut i = to;
     while from < i {
         i -= 1;
-        let p = cells::op_in(ops[i]);
+        let held = cells::op_in(ops[i]);
+        let p = handed_by(giver, receiver, held);
         sweep_one(p, users, writers, rows);
     }
 }
 
-// For each transaction the set of those that it stands before by one tie, with x read at one place, if it is among so many operations.
+// For each transaction the set of those that it stands before by one tie, with those of a giver handed over and x read at one place, if it is among so many operations.
 fn rows_with(
     ops: &[u32; Operation::MOST],
+    giver: usize,
+    receiver: u16,
     total: usize,
     at: usize,
     x: Operation,
 ) -> [u64; Book::TRANSACTIONS]
     requires { ⌜ Lent total at ⌝ }
-    ensures { λ r. ⌜ ((a k : ℕ) → memAt r a k ≡ tiesOf total (readWith (now (ops .entry)) at x) a k) ⌝ }
+    ensures { λ r. ⌜ ((a k : ℕ) → memAt r a k ≡ tiesOf total (readWith (now (ops .entry)) giver receiver at x) a k) ⌝ }
 {
     let mut users = [0u64; Book::OBJECTS];
     let mut writers = [0u64; Book::OBJECTS];
     let mut rows = [0u64; Book::TRANSACTIONS];
     if total <= at {
-        sweep(ops, 0, total, &mut users, &mut writers, &mut rows);
+        sweep(
+            ops,
+            giver,
+            receiver,
+            0,
+            total,
+            &mut users,
+            &mut writers,
+            &mut rows,
+        );
         return rows;
     }
-    sweep(ops, at + 1, total, &mut users, &mut writers, &mut rows);
+    sweep(
+        ops,
+        giver,
+        receiver,
+        at + 1,
+        total,
+        &mut users,
+        &mut writers,
+        &mut rows,
+    );
     sweep_one(x, &mut users, &mut writers, &mut rows);
-    sweep(ops, 0, at, &mut users, &mut writers, &mut rows);
+    sweep(
+        ops,
+        giver,
+        receiver,
+        0,
+        at,
+        &mut users,
+        &mut writers,
+        &mut rows,
+    );
     rows
 }
 
@@ -121,9 +163,11 @@ fn led_from(rows: &[u64; Book::TRANSACTIONS], from: u64) -> u64
     }
 }
 
-// Whether one of some and v lead to each other, with x read at one place.
+// Whether one of some and v lead to each other, with those of a giver handed over and x read at one place.
 fn ring_with(
     ops: &[u32; Operation::MOST],
+    giver: usize,
+    receiver: u16,
     total: usize,
     at: usize,
     x: Operation,
@@ -131,12 +175,12 @@ fn ring_with(
     v: usize,
 ) -> bool
     requires { ⌜ Lent total at ⌝ }
-    ensures { λ r. ⌜ r ≡ ringWith (tiesOf total (readWith (now (ops .entry)) at x)) (mem some) v ⌝ }
+    ensures { λ r. ⌜ r ≡ ringWith (tiesOf total (readWith (now (ops .entry)) giver receiver at x)) (mem some) v ⌝ }
 {
     if Book::TRANSACTIONS <= v {
         return false;
     }
-    let rows = rows_with(ops, total, at, x);
+    let rows = rows_with(ops, giver, receiver, total, at, x);
     let next = rows[v];
     let after = led_from(&rows, next);
     let rest = sets::without(after, some);
@@ -155,7 +199,7 @@ pub fn ring_made(ops: &[u32; Operation::MOST], n: usize, x: Operation, some: u64
     let all = cells::size(n);
     let total = all + 1;
     let v = x.responsible as usize;
-    ring_with(ops, total, all, x, some, v)
+    ring_with(ops, Book::TRANSACTIONS, 0, total, all, x, some, v)
 }
 
 // Operation q as it would be, had a receiver been given it.
@@ -182,5 +226,21 @@ pub fn ring_given(
     let all = cells::size(n);
     let x = given_at(ops, q, receiver);
     let v = receiver as usize;
-    ring_with(ops, all, q, x, some, v)
+    ring_with(ops, Book::TRANSACTIONS, 0, all, q, x, some, v)
+}
+
+// Whether one of some would be on a ring with the receiver, had it been handed all that t is at work on.
+pub fn ring_handed(
+    ops: &[u32; Operation::MOST],
+    n: usize,
+    t: usize,
+    receiver: u16,
+    some: u64,
+) -> bool
+    ensures { λ r. ⌜ r ≡ ringWith (beforeHanded (opsIn (now (ops .entry)) n) t receiver) (mem some) receiver ⌝ }
+{
+    let all = cells::size(n);
+    let none = Operation::none();
+    let v = receiver as usize;
+    ring_with(ops, t, receiver, all, all, none, some, v)
 }

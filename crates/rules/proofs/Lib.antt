@@ -4,3 +4,4 @@ pub mod StateLaws
 pub mod LentLaws
 pub mod RuleLaws
 pub mod LeavesAloneHolds
+pub mod OwnChildrenHold

@@ -6,8 +6,10 @@ use mathlib.Core.Logic.{_↔_, _≢_, _⊎_}
 use mathlib.Core.List.{List, [], _∷_, map}
 use Rattle.tables.specs.Dependencies.{kindOf}
 use Rattle.tables.specs.declared.Sort.the-variants.{Plain, Saga, Step, Undo}
-use Rattle.rules.specs.Rules.{abortBarred, beginBarred, beginBars, commitBarred, commitBars}
-use Rattle.rules.specs.States.{own}
+use Rattle.terms.specs.Limits.{mostTransactions}
+use Rattle.rules.specs.Rules.{abortBarred, beginBarred, beginBars, childActive, commitBarred, commitBars}
+use Rattle.rules.specs.States.{own, parentOf, phaseOf}
+use Rattle.rules.specs.declared.Parent.the-variants.{Under}
 use Rattle.rules.specs.declared.Phase.{Phase}
 use Rattle.rules.specs.declared.Phase.the-variants.{Aborted, Active, Committed, Idle}
 use Rattle.rules.specs.declared.Transaction.{Transaction}
@@ -52,6 +54,18 @@ pub record KindTable : Type 0 where
   pub begins : map (λ (k : ℕ). byPhase (beginBars (kindOf k))) (1 ∷ 2 ∷ 3 ∷ 4 ∷ 5 ∷ 6 ∷ 7 ∷ [])
       ≡ (false ∷ false ∷ false ∷ false ∷ []) ∷ (false ∷ false ∷ false ∷ false ∷ []) ∷ (false ∷ false ∷ false ∷ false ∷ [])
       ∷ (true ∷ false ∷ false ∷ false ∷ []) ∷ (true ∷ true ∷ false ∷ false ∷ []) ∷ (true ∷ true ∷ false ∷ true ∷ []) ∷ (true ∷ true ∷ true ∷ false ∷ []) ∷ []
+
+-- ---- helpers
+
+-- "A parent can't commit while a child is active": a child of its own, and no one further down
+pub record ActiveChild (ts : List Transaction) (m : ℕ) : Type 0 where
+  pub child : ℕ
+  pub low : child < mostTransactions
+  pub under : parentOf ts child ≡ Under m
+  pub active : phaseOf ts child ≡ Active
+
+abbrev pub OwnChildren : Type 0
+OwnChildren = (ts : List Transaction) (m : ℕ) → (childActive ts m ≡ true) ↔ ActiveChild ts m
 
 -- in any state
 abbrev pub RulesLeaveAlone : Type 0

@@ -18,7 +18,7 @@ use Rattle.tables.specs.declared.Tables.{Tables}
 use Rattle.sheet.specs.Sheet.{sortAt}
 use Rattle.rules.specs.declared.Phase.{Phase}
 use Rattle.rules.specs.declared.Transaction.{Transaction}
-use Rattle.rules.specs.States.{isIdle, isActive, isCommitted, isAborted, hasEnded, phaseOf, own}
+use Rattle.rules.specs.States.{isIdle, isActive, isCommitted, isAborted, hasEnded, phaseOf, parentOf, isUnder, own}
 
 -- ---- sagas; P gives the phases of the saga's own transactions
 
@@ -99,6 +99,15 @@ barredBy begins ts t d = eqb (d .dependent) t && kindBars begins (d .kind) (phas
 -- some declared dependency does; no more are declared than there is room for
 unfoldable pub declaredBars : Bool → Tables → List Transaction → ℕ → Bool
 declaredBars begins tables ts t = anyBelow (dependencyCount tables) (λ i. barredBy begins ts t (dependencyAt tables i))
+
+-- ---- helpers: "A parent can't commit while a child is active"
+
+abbrev pub activeChild : List Transaction → ℕ → ℕ → Bool
+activeChild ts m c = isUnder m (parentOf ts c) && isActive (phaseOf ts c)
+
+-- a child of m's own is active
+unfoldable pub childActive : List Transaction → ℕ → Bool
+childActive ts m = anyBelow mostTransactions (activeChild ts m)
 
 -- ---- what is asked of transactions by their phase
 

@@ -1,12 +1,15 @@
 -- The state (docs/RULES.md, 2 States and who may act): "A transaction is idle, active, committed or aborted."
 use Prim.Native.Nat.{ℕ, _+_}
 use mathlib.Core.Bool.{Bool, true, false, _||_}
+use lib.Dec.{eqb}
 use mathlib.Core.List.{List}
 use lib.ListN.{getD, set, replicate}
 use Rattle.terms.specs.Limits.{mostTransactions}
 use Rattle.ties.specs.Operations.{noOps}
 use Rattle.rules.specs.declared.Phase.{Phase}
 use Rattle.rules.specs.declared.Phase.the-variants.{Idle, Active, Committed, Aborted}
+use Rattle.rules.specs.declared.Parent.{Parent}
+use Rattle.rules.specs.declared.Parent.the-variants.{Nobody, Under}
 use Rattle.rules.specs.declared.Transaction.{Transaction}
 use Rattle.rules.specs.declared.State.{State}
 
@@ -39,7 +42,7 @@ abbrev pub hasEnded : Phase → Bool
 hasEnded p = isCommitted p || isAborted p
 
 abbrev pub idle : Transaction
-idle = record { phase = Idle }
+idle = record { phase = Idle; parent = Nobody }
 
 -- before the first event
 abbrev pub emptyState : State
@@ -55,8 +58,27 @@ own ts f k = phaseOf ts (f + k)
 
 -- the transaction in another phase, with whatever else it has
 abbrev pub inPhase : Phase → Transaction → Transaction
-inPhase p x = record { phase = p }
+inPhase p x = record { phase = p; parent = x .parent }
 
 -- t enters a phase
 unfoldable pub entered : Phase → ℕ → List Transaction → List Transaction
 entered p t ts = set ts t (inPhase p (getD ts t idle))
+
+-- ---- "one clerk opens helpers' transactions under their own"
+
+-- whose child t is; what is no transaction is nobody's
+abbrev pub parentOf : List Transaction → ℕ → Parent
+parentOf ts t = getD ts t idle .parent
+
+abbrev pub isChild : Parent → Bool
+isChild Nobody = false
+isChild (Under m) = true
+
+-- a child of m's own, which its own children are not
+abbrev pub isUnder : ℕ → Parent → Bool
+isUnder m Nobody = false
+isUnder m (Under p) = eqb p m
+
+-- "the child becomes active": m spawns t, whose parent it is from then on
+unfoldable pub spawned : ℕ → ℕ → List Transaction → List Transaction
+spawned m t ts = set ts t (record { phase = Active; parent = Under m })

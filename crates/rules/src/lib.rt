@@ -6,15 +6,15 @@ use tables::Sort;
 use terms::Book;
 use ties::Ops;
 ghost use mathlib.Core.Path.{_≡_};
-ghost use Prim.Native.Nat.{_≤_};
+ghost use Prim.Native.Nat.{_≤_, _<_};
 ghost use lib.ListN.{length};
 ghost use Rattle.laws.specs.Index.{anyBelow};
 ghost use Rattle.terms.specs.Limits.{mostTransactions};
 ghost use Rattle.tables.specs.declared.Tables.{Tables};
 ghost use Rattle.sheet.specs.Sheet.{Holds};
-ghost use Rattle.rules.specs.States.{isIdle, isActive, isCommitted, isAborted, emptyState, phaseOf, own, entered};
-ghost use Rattle.rules.specs.Lent.{phaseIn, phaseCode, withPhase, transactionsIn};
-ghost use Rattle.rules.specs.Rules.{stepBegins, undoBegins, beginBarred, commitBarred, abortBarred, commitBars, beginBars, kindBars, declaredBars, undoOn, activeUndos};
+ghost use Rattle.rules.specs.States.{isIdle, isActive, isCommitted, isAborted, idle, emptyState, phaseOf, own, entered, parentOf, isChild, isUnder};
+ghost use Rattle.rules.specs.Lent.{phaseIn, phaseCode, withPhase, parentIn, parentCode, parentFits, underIn, transactionsIn, spawnedIn, putIn};
+ghost use Rattle.rules.specs.Rules.{stepBegins, undoBegins, beginBarred, commitBarred, abortBarred, commitBars, beginBars, kindBars, declaredBars, childActive, undoOn, activeUndos};
 
 // How a transaction stands.
 pub enum Phase {
@@ -24,8 +24,15 @@ pub enum Phase {
     Aborted,
 }
 
+// Whose child a transaction is: whoever spawned it, for good.
+pub enum Parent {
+    Nobody,
+    Under(u16),
+}
+
 pub struct Transaction {
     pub phase: Phase,
+    pub parent: Parent,
 }
 
 // How everything stands between two events.
@@ -80,12 +87,55 @@ impl Phase {
     }
 }
 
+impl Parent {
+    pub fn is_child(self) -> bool
+        ensures { λ r. ⌜ r ≡ isChild self ⌝ }
+    {
+        match self {
+            Parent::Nobody => false,
+            Parent::Under(_) => true,
+        }
+    }
+
+    // Whether a lent number can stand for a child of this parent: every parent of a book is one of the transactions.
+    fn fits(self) -> bool
+        ensures { λ r. ⌜ r ≡ parentFits self ⌝ }
+    {
+        match self {
+            Parent::Nobody => true,
+            Parent::Under(m) => (m as usize) < Book::TRANSACTIONS,
+        }
+    }
+
+    // Whether it is m, and not one further up.
+    fn is_under(self, m: usize) -> bool
+        ensures { λ r. ⌜ r ≡ isUnder m self ⌝ }
+    {
+        match self {
+            Parent::Nobody => false,
+            Parent::Under(p) => p as usize == m,
+        }
+    }
+}
+
+impl Transaction {
+    // Not begun, and nobody's child.
+    fn idle() -> Transaction
+        ensures { λ r. ⌜ r ≡ idle ⌝ }
+    {
+        Transaction {
+            phase: Phase::Idle,
+            parent: Parent::Nobody,
+        }
+    }
+}
+
 impl State {
     // Before the first event.
     pub fn empty() -> State
         ensures { λ r. ⌜ r ≡ emptyState ⌝ }
     {
-        let idle = Transaction { phase: Phase::Idle };
+        let idle = Transaction::idle();
         let transactions = [idle; Book::TRANSACTIONS];
         let ops = Ops::none();
         State { transactions, ops }
@@ -141,6 +191,36 @@ fn with_phase(c: u32, phase: Phase) -> u32
     c / 4 * 4 + code
 }
 
+fn parent_in(c: u32) -> Parent
+    ensures { λ r. ⌜ r ≡ parentIn c ⌝ }
+{
+    let k = c / 4 % 128;
+    if k == 0 {
+        return Parent::Nobody;
+    }
+    let m = k - 1;
+    Parent::Under(m as u16)
+}
+
+fn parent_code(parent: Parent) -> u32
+    ensures { λ r. ⌜ r ≡ parentCode parent ⌝ }
+{
+    match parent {
+        Parent::Nobody => 0,
+        Parent::Under(m) => m as u32 + 1,
+    }
+}
+
+// The number of an active child of m's, with whatever else it has.
+fn under_in(c: u32, m: u32) -> u32
+    requires { ⌜ m < mostTransactions ⌝ }
+    ensures { λ r. ⌜ r ≡ underIn m c ⌝ }
+{
+    let kept = c / 512 * 512;
+    let under = (m + 1) * 4;
+    kept + under + 1
+}
+
 // The phase of t; what is no transaction is idle.
 pub fn phase_at(transactions: &[u32; Book::TRANSACTIONS], t: usize) -> Phase
     ensures { λ r. ⌜ r ≡ phaseOf (transactionsIn (now (transactions .entry))) t ⌝ }
@@ -168,18 +248,68 @@ pub fn enters(transactions: &mut [u32; Book::TRANSACTIONS], t: usize, phase: Pha
     }
 }
 
+// Whose child t is; what is no transaction is nobody's.
+pub fn parent_at(transactions: &[u32; Book::TRANSACTIONS], t: usize) -> Parent
+    ensures { λ r. ⌜ r ≡ parentOf (transactionsIn (now (transactions .entry))) t ⌝ }
+{
+    if Book::TRANSACTIONS <= t {
+        return Parent::Nobody;
+    }
+    parent_in(transactions[t])
+}
+
+// m spawns t, which is active then.
+pub fn spawns(transactions: &mut [u32; Book::TRANSACTIONS], m: usize, t: usize)
+    ensures { λ _. ⌜ transactionsIn (now (transactions .exit)) ≡ spawnedIn m t (transactionsIn (now (transactions .entry))) ⌝ }
+{
+    if m < Book::TRANSACTIONS {
+        if t < Book::TRANSACTIONS {
+            transactions[t] = under_in(transactions[t], m as u32);
+        }
+    }
+}
+
+// t stands as x from now on.
+pub fn put(transactions: &mut [u32; Book::TRANSACTIONS], t: usize, x: Transaction)
+    ensures { λ _. ⌜ transactionsIn (now (transactions .exit)) ≡ putIn t x (transactionsIn (now (transactions .entry))) ⌝ }
+{
+    let phase = x.phase;
+    let parent = x.parent;
+    if parent.fits() {
+        if t < Book::TRANSACTIONS {
+            transactions[t] = parent_code(parent) * 4 + phase_code(phase);
+        }
+    }
+}
+
+// Whether a child of m's own is active.
+pub fn child_active(transactions: &[u32; Book::TRANSACTIONS], m: usize) -> bool
+    ensures { λ r. ⌜ r ≡ childActive (transactionsIn (now (transactions .entry))) m ⌝ }
+{
+    let mut found = false;
+    let mut t: usize = 0;
+    while t < Book::TRANSACTIONS {
+        let parent = parent_in(transactions[t]);
+        let phase = phase_in(transactions[t]);
+        found = found | (parent.is_under(m) & phase.is_active());
+        t += 1;
+    }
+    found
+}
+
 // The transactions by value, as a reading hands them out.
 pub fn transactions_of(
     transactions: &[u32; Book::TRANSACTIONS],
 ) -> [Transaction; Book::TRANSACTIONS]
     ensures { λ r. ⌜ (length (transactionsIn (now (transactions .entry))) ≡ mostTransactions → r ≡ transactionsIn (now (transactions .entry))) ⌝ }
 {
-    let idle = Transaction { phase: Phase::Idle };
+    let idle = Transaction::idle();
     let mut all = [idle; Book::TRANSACTIONS];
     let mut t: usize = 0;
     while t < Book::TRANSACTIONS {
         let phase = phase_in(transactions[t]);
-        all[t] = Transaction { phase };
+        let parent = parent_in(transactions[t]);
+        all[t] = Transaction { phase, parent };
         t += 1;
     }
     all

@@ -82,6 +82,7 @@ pub enum Event {
     Delegate(usize, usize, usize),
     CommitOne(usize, usize),
     AbortOne(usize, usize),
+    Spawn(usize, usize),
 }
 
 // Why a book, an event or a room is refused: one case for each number of the table of refusals.

@@ -16,8 +16,8 @@ use Rattle.ties.specs.declared.Fate.{Fate}
 use Rattle.ties.specs.declared.Fate.the-variants.{Aborted, Active, Committed}
 use Rattle.ties.specs.declared.Operation.{Operation}
 use Rattle.ties.specs.declared.Ops.{Ops}
-use Rattle.ties.specs.Operations.{endedAs, given, isAborted, isActive, isCommitted, made, mostOperations, noOperation, onlyActive, opAt, passedTo, rewritten, size}
-use Rattle.ties.specs.Ties.{before, beforeGiven, beforeMade, isGone, opWith, tiesOf}
+use Rattle.ties.specs.Operations.{allHeldBy, endedAs, given, isAborted, isActive, isCommitted, made, mostOperations, noOperation, onlyActive, opAt, passedTo, rewritten, size}
+use Rattle.ties.specs.Ties.{before, beforeGiven, beforeHanded, beforeMade, isGone, opWith, tiesOf}
 use Rattle.ties.proofs.OpsLaws.{made-at, rewritten-at, size-made}
 use Rattle.ties.proofs.TieLaws.{between, ties-on, ties-same}
 
@@ -144,27 +144,16 @@ module _ (which : ℕ → Operation → Bool) (running : (p : ℕ) (op : Operati
         second = sym (y .responsible) ∙ w .second;
       })
 
--- ---- one operation given
+-- ---- operations that change hands: each pair that comes of it has the receiver at one end
 
-module _ (ops : Ops) (q r : ℕ) where
-  -- one that has ended is not given at all
-  pub given-ended : isActive (opAt ops q .fate) ≡ false → beforeGiven ops q r ≡ before ops
+module _ (which : ℕ → Operation → Bool) (quiet : (p : ℕ) → which p noOperation ≡ false) (ops : Ops) (r : ℕ) where
+  passed-adds : AddsAt (before ops) (before (rewritten which (passedTo r) ops)) r
   unfolding rewritten
-  given-ended h =
-      ties-same (size ops) (opAt (given q r ops)) (opAt ops)
-      (λ i l.
-      rewritten-cases (onlyActive q) (passedTo r) (λ p. refl) ops i (λ e. e)
-      (λ w e.
-      let both = on-and (isActive (opAt ops i .fate)) (eqb i q) w in
-      clash (both .0) (ap (λ (k : ℕ). isActive (opAt ops k .fate)) (eqb-true i q (both .1)) ∙ h)))
-
-  pub given-adds : AddsAt (before ops) (beforeGiven ops q r) r
-  unfolding rewritten
-  given-adds a b h =
-      let w = between (size (given q r ops)) (opAt (given q r ops)) a b h in
-      rewritten-cases (onlyActive q) (passedTo r) (λ p. refl) ops (w .p)
+  passed-adds a b h =
+      let w = between (size (rewritten which (passedTo r) ops)) (opAt (rewritten which (passedTo r) ops)) a b h in
+      rewritten-cases which (passedTo r) quiet ops (w .p)
       (λ fp.
-      rewritten-cases (onlyActive q) (passedTo r) (λ p. refl) ops (w .q)
+      rewritten-cases which (passedTo r) quiet ops (w .q)
       (λ fq.
       inl
       (ties-on (size ops) (opAt ops) a b
@@ -179,3 +168,23 @@ module _ (ops : Ops) (q r : ℕ) where
       })))
       (λ z fq. inr (inr (sym (w .second) ∙ ap (λ (op : Operation). op .responsible) fq))))
       (λ z fp. inr (inl (sym (w .first) ∙ ap (λ (op : Operation). op .responsible) fp)))
+
+-- all that t is at work on
+pub handed-adds : (ops : Ops) (t r : ℕ) → AddsAt (before ops) (beforeHanded ops t r) r
+handed-adds ops t r = passed-adds (allHeldBy t) (λ p. refl) ops r
+
+-- one operation
+module _ (ops : Ops) (q r : ℕ) where
+  -- one that has ended is not given at all
+  pub given-ended : isActive (opAt ops q .fate) ≡ false → beforeGiven ops q r ≡ before ops
+  unfolding rewritten
+  given-ended h =
+      ties-same (size ops) (opAt (given q r ops)) (opAt ops)
+      (λ i l.
+      rewritten-cases (onlyActive q) (passedTo r) (λ p. refl) ops i (λ e. e)
+      (λ w e.
+      let both = on-and (isActive (opAt ops i .fate)) (eqb i q) w in
+      clash (both .0) (ap (λ (k : ℕ). isActive (opAt ops k .fate)) (eqb-true i q (both .1)) ∙ h)))
+
+  pub given-adds : AddsAt (before ops) (beforeGiven ops q r) r
+  given-adds = passed-adds (onlyActive q) (λ p. refl) ops r

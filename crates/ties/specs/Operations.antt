@@ -98,6 +98,10 @@ allHeldBy t p op = heldBy t op
 abbrev pub given : ℕ → ℕ → Ops → Ops
 given q receiver ops = rewritten (onlyActive q) (passedTo receiver) ops
 
+-- all that t is at work on is handed to a receiver
+abbrev pub handed : ℕ → ℕ → Ops → Ops
+handed t receiver ops = rewritten (allHeldBy t) (passedTo receiver) ops
+
 -- operation q ends alone
 abbrev pub endedOne : ℕ → Fate → Ops → Ops
 endedOne q fate ops = rewritten (onlyActive q) (endedAs fate (size ops)) ops

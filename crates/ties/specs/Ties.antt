@@ -10,7 +10,7 @@ use Rattle.terms.specs.declared.Mark.{Mark}
 use Rattle.terms.specs.Events.{isWrite}
 use Rattle.ties.specs.declared.Operation.{Operation}
 use Rattle.ties.specs.declared.Ops.{Ops}
-use Rattle.ties.specs.Operations.{isAborted, isActive, isCommitted, opAt, size, given}
+use Rattle.ties.specs.Operations.{isAborted, isActive, isCommitted, opAt, size, given, handed}
 
 -- ---- "q is tied to every earlier conflicting operation not aborted when q is accepted"
 
@@ -68,7 +68,8 @@ pairsOf ops = grid mostTransactions (before ops)
 unfoldable pub onRing : Ops → ℕ → Bool
 onRing ops t = leadsTo mostTransactions (before ops) t t
 
--- ---- "an operation or delegation that would put an active undo on a ring is refused"
+-- ---- "an operation or delegation that would put an active undo on a ring is refused", and "A child's commit that would put an active undo on a ring is
+-- refused, as such a delegation is"
 
 -- the operations, with x read at the place `at`
 abbrev pub opWith : Ops → ℕ → Operation → ℕ → Operation
@@ -81,6 +82,10 @@ beforeMade ops x = tiesOf (size ops + 1) (opWith ops (size ops) x)
 -- the same with operation q given to a receiver
 abbrev pub beforeGiven : Ops → ℕ → ℕ → ℕ → ℕ → Bool
 beforeGiven ops q receiver = before (given q receiver ops)
+
+-- the same with all that t is at work on handed to a receiver
+abbrev pub beforeHanded : Ops → ℕ → ℕ → ℕ → ℕ → Bool
+beforeHanded ops t receiver = before (handed t receiver ops)
 
 -- one of some and v lead to each other; every pair that the event adds is one of v's
 unfoldable pub ringWith : (ℕ → ℕ → Bool) → (ℕ → Bool) → ℕ → Bool

@@ -2,7 +2,7 @@
 use terms::Book;
 use terms::Mark;
 ghost use mathlib.Core.Path.{_≡_};
-ghost use Rattle.ties.specs.Operations.{isAborted, isActive, isCommitted, mostOperations, noOperation, noOps, size, givenTo, heldBy, endedAs, endedAlone};
+ghost use Rattle.ties.specs.Operations.{isAborted, isActive, isCommitted, mostOperations, noOperation, noOps, size, passedTo, givenTo, heldBy, endedAs, endedAlone};
 ghost use Rattle.ties.specs.Ties.{conflict, tiedTo, isGone, counts, pairsOf, readBy, dirties, waitsFor};
 
 // How an operation stands. A blank place counts as aborted: nothing may end or change it.
@@ -44,20 +44,28 @@ impl Operation {
         }
     }
 
-    // With another responsible transaction, where it is active.
-    pub fn given_to(self, receiver: u16) -> Operation
-        ensures { λ r. ⌜ r ≡ givenTo receiver self ⌝ }
+    // With another responsible transaction.
+    pub fn passed_to(self, receiver: u16) -> Operation
+        ensures { λ r. ⌜ r ≡ passedTo receiver self ⌝ }
     {
         let mark = self.mark;
         let fate = self.fate;
+        Operation {
+            object: self.object,
+            mark,
+            responsible: receiver,
+            fate,
+            ended: self.ended,
+        }
+    }
+
+    // The same, where it is active.
+    pub fn given_to(self, receiver: u16) -> Operation
+        ensures { λ r. ⌜ r ≡ givenTo receiver self ⌝ }
+    {
+        let fate = self.fate;
         if fate.is_active() {
-            return Operation {
-                object: self.object,
-                mark,
-                responsible: receiver,
-                fate,
-                ended: self.ended,
-            };
+            return self.passed_to(receiver);
         }
         self
     }

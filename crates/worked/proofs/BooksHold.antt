@@ -29,6 +29,7 @@ use Rattle.items.proofs.ShortEvents.{abort-behind, begin-behind, commit-behind}
 use Rattle.histories.specs.Histories.{reached}
 use Rattle.histories.proofs.AcceptedWhenHolds.{accepted-when}
 use Rattle.histories.proofs.JudgePromisesHold.{judge-promises}
+use Rattle.histories.proofs.Steps.{commit-passed}
 use Rattle.judge.proofs.EventLaws.{lines-off}
 use Rattle.histories.proofs.RunLaws.{run-none}
 use Rattle.closing.specs.Closing.{closing, eventOf, outstanding}
@@ -50,6 +51,7 @@ pub books-kept : BooksKept
 books-kept circles ed s at e =
     record {
       any-run = judge-promises .any-run (tablesBy circles ed s .tables) (eventsOf circles ed s at);
+      families = judge-promises .families (tablesBy circles ed s .tables) (eventsOf circles ed s at);
       when = accepted-when (tablesBy circles ed s .tables) (eventsOf circles ed s at);
       commits = always-commits circles ed s at e (eventsOf circles ed s at);
       settles = closing-settles-read circles ed s at e (eventsOf circles ed s at);
@@ -75,7 +77,7 @@ module _ (ed : Edition) (s : List ℕ) (tables : Tables) (few : (t : ℕ) → un
       record { two = refl; item = subst (λ (x : Event). itemAt ed (s ++ (1 ∷ t ∷ [])) (length s) ≡ Takes x 0 (length s + 2)) same (begin-behind ed s t (small t u)) }
   step-behind (ToCommit t) e n v =
       let same : Commit t ≡ e = cc in
-      let u = lines-off tables st (Commit t) (subst⁻¹ (λ (x : Event). judged tables st x .verdict ≡ Accepted) same v) .0 in
+      let u = commit-passed tables st t (subst⁻¹ (λ (x : Event). judged tables st x .verdict ≡ Accepted) same v) .0 in
       record { two = refl; item = subst (λ (x : Event). itemAt ed (s ++ (2 ∷ t ∷ [])) (length s) ≡ Takes x 0 (length s + 2)) same (commit-behind ed s t (small t u)) }
   step-behind (ToAbort t) e n v =
       let same : Abort t ≡ e = cc in

@@ -10,6 +10,7 @@ use Rattle.number.specs.declared.Edition.{Edition}
 use Rattle.tables.specs.Reading.{tablesBy}
 use Rattle.tables.specs.declared.Circles.{Circles}
 use Rattle.tables.specs.declared.TablesAnswer.the-variants.{Read}
+use Rattle.histories.specs.Families.{Families}
 use Rattle.histories.specs.May.{AcceptedWhen}
 use Rattle.histories.specs.Promises.{AnyRun}
 use Rattle.closing.specs.Closing.{closing, outstanding}
@@ -25,6 +26,7 @@ use Rattle.book.specs.Reading.{readingBy}
 
 pub record Kept (circles : Circles) (ed : Edition) (s : List ℕ) (at : ℕ) : Type 0 where
   pub any-run : AnyRun (tablesBy circles ed s .tables) (eventsOf circles ed s at)
+  pub families : Families (tablesBy circles ed s .tables) (eventsOf circles ed s at)
   pub when : AcceptedWhen (tablesBy circles ed s .tables) (eventsOf circles ed s at)
   pub commits : Commits (tablesBy circles ed s .tables) (eventsOf circles ed s at)
   pub settles : Settles (tablesBy circles ed s .tables) (eventsOf circles ed s at)

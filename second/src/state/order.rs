@@ -47,7 +47,7 @@ impl State {
     /// the last of all, which conflicts with those in `conflicting`.
     ///
     /// It is asked of a state in which no active undo was on a ring before `t`
-    /// got something, be it that new operation or one it was handed. Only ties
+    /// got something, be it that new operation or what it was handed. Only ties
     /// of `t` have come in, so a ring with an undo on it goes through `t`: the
     /// undo is `t`, or `t` leads to it and it leads to `t`. Where no undo is at
     /// work nothing is searched. Few lead to an undo, because it waits for the

@@ -58,6 +58,10 @@ impl Book {
         self.then(&[7, t, operation])
     }
 
+    pub fn spawn(self, parent: u8, child: u8) -> Book {
+        self.then(&[8, parent, child])
+    }
+
     /// Begins a step of a saga and commits it.
     pub fn done(self, t: u8) -> Book {
         self.begin(t).commit(t)

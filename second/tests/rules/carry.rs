@@ -120,7 +120,7 @@ fn what_stops_reading_still_does() {
         (2, &[1, 0x80], 1),
         (3, &[1, 0x80, 0x00], 1),
         (3, &[0x80, 0x00, 0], 0),
-        (7, &[8, 0, 1, 6], 0),
+        (7, &[11, 0, 1, 6], 0),
         (7, &[0], 0),
     ] {
         let book = before.clone().then(bytes);

@@ -54,7 +54,7 @@ fn a_missing_field_is_at_the_end_of_the_book() {
 
 #[test]
 fn an_unknown_event_code_is_judged_at_once() {
-    Book(LISTED.to_vec()).then(&[8]).refuses_last(7, 1);
+    Book(LISTED.to_vec()).then(&[11]).refuses_last(7, 1);
 }
 
 #[test]

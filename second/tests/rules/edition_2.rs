@@ -168,9 +168,9 @@ fn writing_refuses_a_field_above_the_ceiling_where_it_stands() {
         let behind_a_refused_event = [&clerk[..], &[1, 0, 4, 0, 0, 1, record]].concat();
         let answer = write(&behind_a_refused_event, &mut [0; 40]);
         assert_eq!(answer, Err(refused(10, 1, 7)));
-        let behind_an_unknown_code = [&clerk[..], &[8, record]].concat();
+        let behind_an_unknown_code = [&clerk[..], &[11, record]].concat();
         let answer = write(&behind_an_unknown_code, &mut [0; 40]);
-        assert_eq!(answer.unwrap_err().place, 7);
+        assert_eq!(answer, Err(refused(7, 1, 7)));
     }
     for count in [65_536, 2_097_151] {
         assert_eq!(write(&[2, count], &mut []), Err(refused(5, 0, 1)));

@@ -7,6 +7,7 @@ mod closing;
 mod decided;
 mod edition_2;
 mod figures;
+mod helpers;
 mod left;
 mod line;
 mod mend;

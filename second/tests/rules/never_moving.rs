@@ -283,7 +283,7 @@ fn with_circles_permitted_all_other_refusals_stand() {
         vec![1, 0, 2, 0, 1, 0, 0, 4],
         vec![1; 65_537],
         plain(2, &[[0, 1, 4], [1, 0, 1]]).begin(0).0,
-        plain(2, &[]).then(&[8]).0,
+        plain(2, &[]).then(&[11]).0,
     ];
     for book in books {
         assert_eq!(listing_circles_permitted(&book), listing(&book));

@@ -4,6 +4,7 @@
 use crate::books::Book;
 use crate::chance::Chance;
 use second::{report, Event, Mark, Phase, Reading, Sort};
+use std::collections::HashMap;
 
 const OBJECTS: usize = 6;
 
@@ -36,14 +37,20 @@ fn draw_transaction(chance: &mut Chance, reading: &Reading) -> u32 {
     }
 }
 
-/// Any event, most often an operation or a delegation. Undos take their time.
-fn draw(chance: &mut Chance, reading: &Reading) -> Event {
+/// Any event, most often an operation or a delegation, and the more often about
+/// helpers the more of those are wanted. Undos take their time.
+fn draw(chance: &mut Chance, reading: &Reading, helpers: usize) -> Event {
     let transaction = draw_transaction(chance, reading);
     let is_undo = active_undos(reading).any(|undo| undo == transaction as usize);
-    match chance.below(20) {
+    match chance.below(20 + helpers) {
         0..=2 => Event::Begin {
             transaction: chance.field(reading.tables.transactions()),
         },
+        20.. if chance.below(3) > 0 => Event::Spawn {
+            parent: transaction,
+            child: chance.field(reading.tables.transactions()),
+        },
+        20.. if !is_undo && reading.state.operations() > 60 => Event::Commit { transaction },
         3 if chance.below(if is_undo { 60 } else { 2 }) == 0 => Event::Commit { transaction },
         4 if chance.below(4) == 0 => Event::Abort { transaction },
         5..=11 if reading.state.operations() > 0 => draw_of_one_operation(chance, reading),
@@ -134,8 +141,11 @@ fn active_undos(reading: &Reading) -> impl Iterator<Item = usize> + '_ {
     })
 }
 
+/// For each helper, the transaction it was spawned under.
+type Parents = HashMap<usize, usize>;
+
 /// Whether the event, taken in, would put an active undo on a ring.
-fn would_bar_an_undo(reading: &Reading, event: Event) -> bool {
+fn would_bar_an_undo(reading: &Reading, parents: &Parents, event: Event) -> bool {
     let mut all = done(reading);
     match event {
         Event::Operation {
@@ -162,6 +172,18 @@ fn would_bar_an_undo(reading: &Reading, event: Event) -> bool {
                 }
             }
         }
+        Event::Commit { transaction } => {
+            let child = transaction as usize;
+            let Some(parent) = parents.get(&child) else {
+                return false;
+            };
+            let is_active = |q: usize| reading.state.operation_phase(q) == Phase::Active;
+            for (_, done) in all.iter_mut().filter(|(number, _)| is_active(*number)) {
+                if done.by == child {
+                    done.by = *parent;
+                }
+            }
+        }
         _ => return false,
     }
     let rows = order(all.iter().map(|(_, done)| done));
@@ -175,6 +197,7 @@ struct Came {
     own_operation: usize,
     operation_257: usize,
     delegation: usize,
+    commit: usize,
 }
 
 impl Came {
@@ -187,6 +210,7 @@ impl Came {
                 self.own_operation += usize::from(own);
                 self.operation_257 += usize::from(reading.state.operations() == 256);
             }
+            Event::Commit { .. } => self.commit += 1,
             _ => self.delegation += 1,
         }
     }
@@ -206,17 +230,31 @@ fn holds_its_promises(reading: &Reading) {
     }
 }
 
-fn walk(seed: u64, events: usize, came: &mut Came) {
+/// No operation was ever committed under a helper.
+fn helpers_have_committed_nothing(reading: &Reading, parents: &Parents) {
+    let state = &reading.state;
+    for operation in 0..state.operations() {
+        let by_helper = parents.contains_key(&state.responsible(operation));
+        assert!(!by_helper || state.operation_phase(operation) != Phase::Committed);
+    }
+}
+
+fn walk(seed: u64, events: usize, helpers: usize, came: &mut Came) {
     let chance = &mut Chance::new(seed);
     let mut reading = two_sagas_being_undone();
+    let mut parents = Parents::new();
     for _ in 0..events {
-        let event = draw(chance, &reading);
-        let barred = would_bar_an_undo(&reading, event);
+        let event = draw(chance, &reading, helpers);
+        let barred = would_bar_an_undo(&reading, &parents, event);
         let before = reading.clone();
         match reading.state.offer(&reading.tables, event) {
             Ok(()) => {
                 assert!(!barred, "{event:?}");
+                if let Event::Spawn { parent, child } = event {
+                    parents.insert(child as usize, parent as usize);
+                }
                 holds_its_promises(&reading);
+                helpers_have_committed_nothing(&reading, &parents);
             }
             Err(22) => {
                 assert!(barred, "{event:?}");
@@ -233,16 +271,20 @@ fn walk(seed: u64, events: usize, came: &mut Came) {
 fn an_active_undo_is_never_on_a_ring_and_always_commits() {
     let mut came = Came::default();
     for seed in 0..100 {
-        walk(seed, 250, &mut came);
+        walk(seed, 250, 0, &mut came);
+    }
+    for seed in 0..300 {
+        walk(2000 + seed, 250, 6, &mut came);
     }
     for seed in 0..10 {
-        walk(1000 + seed, 2_000, &mut came);
+        walk(1000 + seed, 2_000, 0, &mut came);
     }
     let counts = [
         came.operation,
         came.own_operation,
         came.operation_257,
         came.delegation,
+        came.commit,
     ];
     assert!(counts.iter().all(|count| *count >= 5), "{counts:?}");
 }

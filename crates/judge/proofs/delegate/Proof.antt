@@ -17,7 +17,7 @@ use Rattle.rules.specs.Lent.{transactionsIn}
 use Rattle.cells.specs.Cells.{opsIn}
 use Rattle.tables.specs.Sorts.{isKnown}
 use Rattle.terms.specs.declared.Event.the-variants.{Delegate}
-use Rattle.judge.specs.Judge.{delegateLines, changeOf, noParty, ruledBy}
+use Rattle.judge.specs.Judge.{changeOf, delegateLines, noParty, ruledBy}
 use Rattle.judge.specs.declared.Ruling.{Ruling}
 use Rattle.judge.proofs.RuleLaws.{ruled-passed, ruled-stopped}
 use Rattle.judge.proofs.LentLaws.{sorted, accepted-in, known-low, accepted-low}
@@ -30,7 +30,7 @@ abbrev rest : ℕ → tie.Start → Tables → List (Line Refusal)
 rest k s tables = drop k (delegateLines tables (transactionsIn (s .args .transactions .now)) (opsIn (s .args .ops .now) (s .args .n)) (s .args .t) (s .args .receiver) (s .args .q))
 
 abbrev from : ℕ → tie.Start → Tables → Ruling
-from k s tables = ruledBy (rest k s tables) (changeOf (Delegate (s .args .t) (s .args .receiver) (s .args .q)))
+from k s tables = ruledBy (rest k s tables) (changeOf tables (transactionsIn (s .args .transactions .now)) (Delegate (s .args .t) (s .args .receiver) (s .args .q)))
 
 abbrev Held : tie.Start → Tables → Type 0
 Held s tables = Holds tables (s .args .sheet .now)
@@ -40,31 +40,31 @@ past1 : (c : tie.Else1) (tables : Tables) → Held (c .before .before .before .b
 past1 c tables h =
     let s = c .before .before .before .before in
     let a = s .args in
-    ruled-passed (rest 0 s tables) (changeOf (Delegate (s .args .t) (s .args .receiver) (s .args .q))) (sym (ap₂ _||_ (sorted (λ (x : Sort). not (isKnown x)) (a .sheet .now) tables h (a .t) (c .before .before .before .unknown .ensures)) (ap₂ _||_ (sorted (λ (x : Sort). not (isKnown x)) (a .sheet .now) tables h (a .receiver) (c .before .before .unknown2 .ensures)) (accepted-in (a .ops .now) (a .n) (a .q) (c .before .not-accepted .ensures)))) ∙ c .if1 .left)
+    ruled-passed (rest 0 s tables) (changeOf tables (transactionsIn (s .args .transactions .now)) (Delegate (s .args .t) (s .args .receiver) (s .args .q))) (sym (ap₂ _||_ (sorted (λ (x : Sort). not (isKnown x)) (a .sheet .now) tables h (a .t) (c .before .before .before .unknown .ensures)) (ap₂ _||_ (sorted (λ (x : Sort). not (isKnown x)) (a .sheet .now) tables h (a .receiver) (c .before .before .unknown2 .ensures)) (accepted-in (a .ops .now) (a .n) (a .q) (c .before .not-accepted .ensures)))) ∙ c .if1 .left)
 
 past2 : (c : tie.Else2) (tables : Tables) → Held (c .before .before .before .before .before .before .before) tables → from 0 (c .before .before .before .before .before .before .before) tables ≡ from 2 (c .before .before .before .before .before .before .before) tables
 past2 c tables h =
     let s = c .before .before .before .before .before .before .before in
     let a = s .args in
-    past1 (c .before .before .before) tables h ∙ ruled-passed (rest 1 s tables) (changeOf (Delegate (s .args .t) (s .args .receiver) (s .args .q))) (sym (ap₂ _||_ (sorted noParty (a .sheet .now) tables h (a .t) (c .before .before .no-party .ensures)) (ap (λ (b : Bool). b || eqb (a .t) (a .receiver)) (sorted noParty (a .sheet .now) tables h (a .receiver) (c .before .no-party2 .ensures)))) ∙ c .if2 .left)
+    past1 (c .before .before .before) tables h ∙ ruled-passed (rest 1 s tables) (changeOf tables (transactionsIn (s .args .transactions .now)) (Delegate (s .args .t) (s .args .receiver) (s .args .q))) (sym (ap₂ _||_ (sorted noParty (a .sheet .now) tables h (a .t) (c .before .before .no-party .ensures)) (ap (λ (b : Bool). b || eqb (a .t) (a .receiver)) (sorted noParty (a .sheet .now) tables h (a .receiver) (c .before .no-party2 .ensures)))) ∙ c .if2 .left)
 
 past3 : (c : tie.Else3) (tables : Tables) → Held (c .before .before .before .before .before .before .before .before .before .before) tables → from 0 (c .before .before .before .before .before .before .before .before .before .before) tables ≡ from 3 (c .before .before .before .before .before .before .before .before .before .before) tables
 past3 c tables h =
     let s = c .before .before .before .before .before .before .before .before .before .before in
     let a = s .args in
-    past2 (c .before .before .before) tables h ∙ ruled-passed (rest 2 s tables) (changeOf (Delegate (s .args .t) (s .args .receiver) (s .args .q))) (sym (ap₂ _||_ (c .before .before .inactive .ensures) (c .before .inactive2 .ensures)) ∙ c .if3 .left)
+    past2 (c .before .before .before) tables h ∙ ruled-passed (rest 2 s tables) (changeOf tables (transactionsIn (s .args .transactions .now)) (Delegate (s .args .t) (s .args .receiver) (s .args .q))) (sym (ap₂ _||_ (c .before .before .inactive .ensures) (c .before .inactive2 .ensures)) ∙ c .if3 .left)
 
 past4 : (c : tie.Else4) (tables : Tables) → Held (c .before .before .before .before .before .before .before .before .before .before .before .before) tables → from 0 (c .before .before .before .before .before .before .before .before .before .before .before .before) tables ≡ from 4 (c .before .before .before .before .before .before .before .before .before .before .before .before) tables
 past4 c tables h =
     let s = c .before .before .before .before .before .before .before .before .before .before .before .before in
     let a = s .args in
-    past3 (c .before .before) tables h ∙ ruled-passed (rest 3 s tables) (changeOf (Delegate (s .args .t) (s .args .receiver) (s .args .q))) (sym (c .before .not-responsible .ensures (a .n)) ∙ c .if4 .left)
+    past3 (c .before .before) tables h ∙ ruled-passed (rest 3 s tables) (changeOf tables (transactionsIn (s .args .transactions .now)) (Delegate (s .args .t) (s .args .receiver) (s .args .q))) (sym (c .before .not-responsible .ensures (a .n)) ∙ c .if4 .left)
 
 past5 : (c : tie.Else5) (tables : Tables) → Held (c .before .before .before .before .before .before .before .before .before .before .before .before .before .before) tables → from 0 (c .before .before .before .before .before .before .before .before .before .before .before .before .before .before) tables ≡ from 5 (c .before .before .before .before .before .before .before .before .before .before .before .before .before .before) tables
 past5 c tables h =
     let s = c .before .before .before .before .before .before .before .before .before .before .before .before .before .before in
     let a = s .args in
-    past4 (c .before .before) tables h ∙ ruled-passed (rest 4 s tables) (changeOf (Delegate (s .args .t) (s .args .receiver) (s .args .q))) (sym (c .before .gives-a-ring .ensures tables h) ∙ c .if5 .left)
+    past4 (c .before .before) tables h ∙ ruled-passed (rest 4 s tables) (changeOf tables (transactionsIn (s .args .transactions .now)) (Delegate (s .args .t) (s .args .receiver) (s .args .q))) (sym (c .before .gives-a-ring .ensures tables h) ∙ c .if5 .left)
 
 -- the receiver is one of the 64, and the operation one of the 256
 known : (c : tie.Else1) → (c .before .before .before .before .args .receiver < mostTransactions) × (c .before .before .before .before .args .q < mostOperations)
@@ -90,7 +90,7 @@ returns : tie.Need-returns
 returns c tables h =
     let s = c .before .before .before .before .before in
     let a = s .args in
-    c .refused .ensures ∙ sym (ruled-stopped (rest 0 s tables) (changeOf (Delegate (s .args .t) (s .args .receiver) (s .args .q))) (sym (ap₂ _||_ (sorted (λ (x : Sort). not (isKnown x)) (a .sheet .now) tables h (a .t) (c .before .before .before .before .unknown .ensures)) (ap₂ _||_ (sorted (λ (x : Sort). not (isKnown x)) (a .sheet .now) tables h (a .receiver) (c .before .before .before .unknown2 .ensures)) (accepted-in (a .ops .now) (a .n) (a .q) (c .before .before .not-accepted .ensures)))) ∙ c .before .if1 .taken))
+    c .refused .ensures ∙ sym (ruled-stopped (rest 0 s tables) (changeOf tables (transactionsIn (s .args .transactions .now)) (Delegate (s .args .t) (s .args .receiver) (s .args .q))) (sym (ap₂ _||_ (sorted (λ (x : Sort). not (isKnown x)) (a .sheet .now) tables h (a .t) (c .before .before .before .before .unknown .ensures)) (ap₂ _||_ (sorted (λ (x : Sort). not (isKnown x)) (a .sheet .now) tables h (a .receiver) (c .before .before .before .unknown2 .ensures)) (accepted-in (a .ops .now) (a .n) (a .q) (c .before .before .not-accepted .ensures)))) ∙ c .before .if1 .taken))
 
 no-party-requires : tie.Need-no-party-requires
 no-party-requires c κs = search needs
@@ -105,7 +105,7 @@ returns-2 : tie.Need-returns-2
 returns-2 c tables h =
     let s = c .before .before .before .before .before .before .before .before in
     let a = s .args in
-    c .refused2 .ensures ∙ sym (past1 (c .before .before .before .before) tables h ∙ ruled-stopped (rest 1 s tables) (changeOf (Delegate (s .args .t) (s .args .receiver) (s .args .q))) (sym (ap₂ _||_ (sorted noParty (a .sheet .now) tables h (a .t) (c .before .before .before .no-party .ensures)) (ap (λ (b : Bool). b || eqb (a .t) (a .receiver)) (sorted noParty (a .sheet .now) tables h (a .receiver) (c .before .before .no-party2 .ensures)))) ∙ c .before .if2 .taken))
+    c .refused2 .ensures ∙ sym (past1 (c .before .before .before .before) tables h ∙ ruled-stopped (rest 1 s tables) (changeOf tables (transactionsIn (s .args .transactions .now)) (Delegate (s .args .t) (s .args .receiver) (s .args .q))) (sym (ap₂ _||_ (sorted noParty (a .sheet .now) tables h (a .t) (c .before .before .before .no-party .ensures)) (ap (λ (b : Bool). b || eqb (a .t) (a .receiver)) (sorted noParty (a .sheet .now) tables h (a .receiver) (c .before .before .no-party2 .ensures)))) ∙ c .before .if2 .taken))
 
 inactive-requires : tie.Need-inactive-requires
 inactive-requires c κs = search needs
@@ -120,7 +120,7 @@ returns-3 : tie.Need-returns-3
 returns-3 c tables h =
     let s = c .before .before .before .before .before .before .before .before .before .before .before in
     let a = s .args in
-    c .refused3 .ensures ∙ sym (past2 (c .before .before .before .before) tables h ∙ ruled-stopped (rest 2 s tables) (changeOf (Delegate (s .args .t) (s .args .receiver) (s .args .q))) (sym (ap₂ _||_ (c .before .before .before .inactive .ensures) (c .before .before .inactive2 .ensures)) ∙ c .before .if3 .taken))
+    c .refused3 .ensures ∙ sym (past2 (c .before .before .before .before) tables h ∙ ruled-stopped (rest 2 s tables) (changeOf tables (transactionsIn (s .args .transactions .now)) (Delegate (s .args .t) (s .args .receiver) (s .args .q))) (sym (ap₂ _||_ (c .before .before .before .inactive .ensures) (c .before .before .inactive2 .ensures)) ∙ c .before .if3 .taken))
 
 not-responsible-requires : tie.Need-not-responsible-requires
 not-responsible-requires c κs = known (c .before .before .before .before .before .before) .1
@@ -132,7 +132,7 @@ returns-4 : tie.Need-returns-4
 returns-4 c tables h =
     let s = c .before .before .before .before .before .before .before .before .before .before .before .before .before in
     let a = s .args in
-    c .refused4 .ensures ∙ sym (past3 (c .before .before .before) tables h ∙ ruled-stopped (rest 3 s tables) (changeOf (Delegate (s .args .t) (s .args .receiver) (s .args .q))) (sym (c .before .before .not-responsible .ensures (a .n)) ∙ c .before .if4 .taken))
+    c .refused4 .ensures ∙ sym (past3 (c .before .before .before) tables h ∙ ruled-stopped (rest 3 s tables) (changeOf tables (transactionsIn (s .args .transactions .now)) (Delegate (s .args .t) (s .args .receiver) (s .args .q))) (sym (c .before .before .not-responsible .ensures (a .n)) ∙ c .before .if4 .taken))
 
 cast-to : tie.Need-cast-to
 cast-to c = omega (arith, known (c .before .before .before .before .before .before .before .before) .0)
@@ -147,7 +147,7 @@ returns-5 : tie.Need-returns-5
 returns-5 c tables h =
     let s = c .before .before .before .before .before .before .before .before .before .before .before .before .before .before .before in
     let a = s .args in
-    c .refused5 .ensures ∙ sym (past4 (c .before .before .before) tables h ∙ ruled-stopped (rest 4 s tables) (changeOf (Delegate (s .args .t) (s .args .receiver) (s .args .q))) (sym (c .before .before .gives-a-ring .ensures tables h) ∙ c .before .if5 .taken))
+    c .refused5 .ensures ∙ sym (past4 (c .before .before .before) tables h ∙ ruled-stopped (rest 4 s tables) (changeOf tables (transactionsIn (s .args .transactions .now)) (Delegate (s .args .t) (s .args .receiver) (s .args .q))) (sym (c .before .before .gives-a-ring .ensures tables h) ∙ c .before .if5 .taken))
 
 accepted-requires : tie.Need-accepted-requires
 accepted-requires c κs = search needs

@@ -20,7 +20,7 @@ use Rattle.rules.specs.Lent.{transactionsIn}
 use Rattle.cells.specs.Cells.{opsIn}
 use Rattle.tables.specs.Sorts.{isKnown, isSaga, isUndo}
 use Rattle.terms.specs.declared.Event.the-variants.{Operation as Invoke}
-use Rattle.judge.specs.Judge.{operationLines, changeOf, ruledBy}
+use Rattle.judge.specs.Judge.{changeOf, operationLines, ruledBy}
 use Rattle.judge.specs.declared.Ruling.{Ruling}
 use Rattle.judge.proofs.RuleLaws.{ruled-passed, ruled-stopped}
 use Rattle.judge.proofs.LentLaws.{sorted, objected, known-low, object-low}
@@ -33,7 +33,7 @@ abbrev rest : ℕ → tie.Start → Tables → List (Line Refusal)
 rest k s tables = drop k (operationLines tables (transactionsIn (s .args .transactions .now)) (opsIn (s .args .ops .now) (s .args .n)) (s .args .t) (s .args .object) (s .args .mark))
 
 abbrev from : ℕ → tie.Start → Tables → Ruling
-from k s tables = ruledBy (rest k s tables) (changeOf (Invoke (s .args .t) (s .args .object) (s .args .mark)))
+from k s tables = ruledBy (rest k s tables) (changeOf tables (transactionsIn (s .args .transactions .now)) (Invoke (s .args .t) (s .args .object) (s .args .mark)))
 
 abbrev Held : tie.Start → Tables → Type 0
 Held s tables = Holds tables (s .args .sheet .now)
@@ -43,37 +43,37 @@ past1 : (c : tie.Else1) (tables : Tables) → Held (c .before .before .before) t
 past1 c tables h =
     let s = c .before .before .before in
     let a = s .args in
-    ruled-passed (rest 0 s tables) (changeOf (Invoke (s .args .t) (s .args .object) (s .args .mark))) (sym (ap₂ _||_ (sorted (λ (x : Sort). not (isKnown x)) (a .sheet .now) tables h (a .t) (c .before .before .unknown .ensures)) (objected (a .sheet .now) tables h (a .object) (c .before .unknown-object .ensures))) ∙ c .if1 .left)
+    ruled-passed (rest 0 s tables) (changeOf tables (transactionsIn (s .args .transactions .now)) (Invoke (s .args .t) (s .args .object) (s .args .mark))) (sym (ap₂ _||_ (sorted (λ (x : Sort). not (isKnown x)) (a .sheet .now) tables h (a .t) (c .before .before .unknown .ensures)) (objected (a .sheet .now) tables h (a .object) (c .before .unknown-object .ensures))) ∙ c .if1 .left)
 
 past2 : (c : tie.Else2) (tables : Tables) → Held (c .before .before .before .before .before) tables → from 0 (c .before .before .before .before .before) tables ≡ from 2 (c .before .before .before .before .before) tables
 past2 c tables h =
     let s = c .before .before .before .before .before in
     let a = s .args in
-    past1 (c .before .before) tables h ∙ ruled-passed (rest 1 s tables) (changeOf (Invoke (s .args .t) (s .args .object) (s .args .mark))) (sym (sorted isSaga (a .sheet .now) tables h (a .t) (c .before .is-saga .ensures)) ∙ c .if2 .left)
+    past1 (c .before .before) tables h ∙ ruled-passed (rest 1 s tables) (changeOf tables (transactionsIn (s .args .transactions .now)) (Invoke (s .args .t) (s .args .object) (s .args .mark))) (sym (sorted isSaga (a .sheet .now) tables h (a .t) (c .before .is-saga .ensures)) ∙ c .if2 .left)
 
 past3 : (c : tie.Else3) (tables : Tables) → Held (c .before .before .before .before .before .before .before) tables → from 0 (c .before .before .before .before .before .before .before) tables ≡ from 3 (c .before .before .before .before .before .before .before) tables
 past3 c tables h =
     let s = c .before .before .before .before .before .before .before in
     let a = s .args in
-    past2 (c .before .before) tables h ∙ ruled-passed (rest 2 s tables) (changeOf (Invoke (s .args .t) (s .args .object) (s .args .mark))) (sym (c .before .inactive .ensures) ∙ c .if3 .left)
+    past2 (c .before .before) tables h ∙ ruled-passed (rest 2 s tables) (changeOf tables (transactionsIn (s .args .transactions .now)) (Invoke (s .args .t) (s .args .object) (s .args .mark))) (sym (c .before .inactive .ensures) ∙ c .if3 .left)
 
 past4 : (c : tie.Else4) (tables : Tables) → Held (c .before .before .before .before .before .before .before .before .before) tables → from 0 (c .before .before .before .before .before .before .before .before .before) tables ≡ from 4 (c .before .before .before .before .before .before .before .before .before) tables
 past4 c tables h =
     let s = c .before .before .before .before .before .before .before .before .before in
     let a = s .args in
-    past3 (c .before .before) tables h ∙ ruled-passed (rest 3 s tables) (changeOf (Invoke (s .args .t) (s .args .object) (s .args .mark))) (sym (sorted (λ (x : Sort). isUndo x && mustWait (opsIn (a .ops .now) (a .n)) (a .t) (a .object) (a .mark)) (a .sheet .now) tables h (a .t) (c .before .must-wait .ensures)) ∙ c .if4 .left)
+    past3 (c .before .before) tables h ∙ ruled-passed (rest 3 s tables) (changeOf tables (transactionsIn (s .args .transactions .now)) (Invoke (s .args .t) (s .args .object) (s .args .mark))) (sym (sorted (λ (x : Sort). isUndo x && mustWait (opsIn (a .ops .now) (a .n)) (a .t) (a .object) (a .mark)) (a .sheet .now) tables h (a .t) (c .before .must-wait .ensures)) ∙ c .if4 .left)
 
 past5 : (c : tie.Else5) (tables : Tables) → Held (c .before .before .before .before .before .before .before .before .before .before .before) tables → from 0 (c .before .before .before .before .before .before .before .before .before .before .before) tables ≡ from 5 (c .before .before .before .before .before .before .before .before .before .before .before) tables
 past5 c tables h =
     let s = c .before .before .before .before .before .before .before .before .before .before .before in
     let a = s .args in
-    past4 (c .before .before) tables h ∙ ruled-passed (rest 4 s tables) (changeOf (Invoke (s .args .t) (s .args .object) (s .args .mark))) (sym (c .before .rings-an-undo .ensures tables h) ∙ c .if5 .left)
+    past4 (c .before .before) tables h ∙ ruled-passed (rest 4 s tables) (changeOf tables (transactionsIn (s .args .transactions .now)) (Invoke (s .args .t) (s .args .object) (s .args .mark))) (sym (c .before .rings-an-undo .ensures tables h) ∙ c .if5 .left)
 
 past6 : (c : tie.Else6) (tables : Tables) → Held (c .before .before .before .before .before .before .before .before .before .before .before .before) tables → from 0 (c .before .before .before .before .before .before .before .before .before .before .before .before) tables ≡ from 6 (c .before .before .before .before .before .before .before .before .before .before .before .before) tables
 past6 c tables h =
     let s = c .before .before .before .before .before .before .before .before .before .before .before .before in
     let a = s .args in
-    past5 (c .before) tables h ∙ ruled-passed (rest 5 s tables) (changeOf (Invoke (s .args .t) (s .args .object) (s .args .mark))) (ap (leb mostOperations) (count-in (a .ops .now) (a .n)) ∙ lt-leb mostOperations (a .n) (c .if6 .left))
+    past5 (c .before) tables h ∙ ruled-passed (rest 5 s tables) (changeOf tables (transactionsIn (s .args .transactions .now)) (Invoke (s .args .t) (s .args .object) (s .args .mark))) (ap (leb mostOperations) (count-in (a .ops .now) (a .n)) ∙ lt-leb mostOperations (a .n) (c .if6 .left))
 
 -- the numbers of the new operation are within the limits
 known : (c : tie.Else1) → (c .before .before .before .args .t < mostTransactions) × (c .before .before .before .args .object < mostObjects)
@@ -97,7 +97,7 @@ returns : tie.Need-returns
 returns c tables h =
     let s = c .before .before .before .before in
     let a = s .args in
-    c .refused .ensures ∙ sym (ruled-stopped (rest 0 s tables) (changeOf (Invoke (s .args .t) (s .args .object) (s .args .mark))) (sym (ap₂ _||_ (sorted (λ (x : Sort). not (isKnown x)) (a .sheet .now) tables h (a .t) (c .before .before .before .unknown .ensures)) (objected (a .sheet .now) tables h (a .object) (c .before .before .unknown-object .ensures))) ∙ c .before .if1 .taken))
+    c .refused .ensures ∙ sym (ruled-stopped (rest 0 s tables) (changeOf tables (transactionsIn (s .args .transactions .now)) (Invoke (s .args .t) (s .args .object) (s .args .mark))) (sym (ap₂ _||_ (sorted (λ (x : Sort). not (isKnown x)) (a .sheet .now) tables h (a .t) (c .before .before .before .unknown .ensures)) (objected (a .sheet .now) tables h (a .object) (c .before .before .unknown-object .ensures))) ∙ c .before .if1 .taken))
 
 is-saga-requires : tie.Need-is-saga-requires
 is-saga-requires c κs = search needs
@@ -109,7 +109,7 @@ returns-2 : tie.Need-returns-2
 returns-2 c tables h =
     let s = c .before .before .before .before .before .before in
     let a = s .args in
-    c .refused2 .ensures ∙ sym (past1 (c .before .before .before) tables h ∙ ruled-stopped (rest 1 s tables) (changeOf (Invoke (s .args .t) (s .args .object) (s .args .mark))) (sym (sorted isSaga (a .sheet .now) tables h (a .t) (c .before .before .is-saga .ensures)) ∙ c .before .if2 .taken))
+    c .refused2 .ensures ∙ sym (past1 (c .before .before .before) tables h ∙ ruled-stopped (rest 1 s tables) (changeOf tables (transactionsIn (s .args .transactions .now)) (Invoke (s .args .t) (s .args .object) (s .args .mark))) (sym (sorted isSaga (a .sheet .now) tables h (a .t) (c .before .before .is-saga .ensures)) ∙ c .before .if2 .taken))
 
 inactive-requires : tie.Need-inactive-requires
 inactive-requires c κs = search needs
@@ -121,7 +121,7 @@ returns-3 : tie.Need-returns-3
 returns-3 c tables h =
     let s = c .before .before .before .before .before .before .before .before in
     let a = s .args in
-    c .refused3 .ensures ∙ sym (past2 (c .before .before .before) tables h ∙ ruled-stopped (rest 2 s tables) (changeOf (Invoke (s .args .t) (s .args .object) (s .args .mark))) (sym (c .before .before .inactive .ensures) ∙ c .before .if3 .taken))
+    c .refused3 .ensures ∙ sym (past2 (c .before .before .before) tables h ∙ ruled-stopped (rest 2 s tables) (changeOf tables (transactionsIn (s .args .transactions .now)) (Invoke (s .args .t) (s .args .object) (s .args .mark))) (sym (c .before .before .inactive .ensures) ∙ c .before .if3 .taken))
 
 must-wait-requires : tie.Need-must-wait-requires
 must-wait-requires c κs = search needs
@@ -133,7 +133,7 @@ returns-4 : tie.Need-returns-4
 returns-4 c tables h =
     let s = c .before .before .before .before .before .before .before .before .before .before in
     let a = s .args in
-    c .refused4 .ensures ∙ sym (past3 (c .before .before .before) tables h ∙ ruled-stopped (rest 3 s tables) (changeOf (Invoke (s .args .t) (s .args .object) (s .args .mark))) (sym (sorted (λ (x : Sort). isUndo x && mustWait (opsIn (a .ops .now) (a .n)) (a .t) (a .object) (a .mark)) (a .sheet .now) tables h (a .t) (c .before .before .must-wait .ensures)) ∙ c .before .if4 .taken))
+    c .refused4 .ensures ∙ sym (past3 (c .before .before .before) tables h ∙ ruled-stopped (rest 3 s tables) (changeOf tables (transactionsIn (s .args .transactions .now)) (Invoke (s .args .t) (s .args .object) (s .args .mark))) (sym (sorted (λ (x : Sort). isUndo x && mustWait (opsIn (a .ops .now) (a .n)) (a .t) (a .object) (a .mark)) (a .sheet .now) tables h (a .t) (c .before .before .must-wait .ensures)) ∙ c .before .if4 .taken))
 
 cast-t19 : tie.Need-cast-t19
 cast-t19 c = omega (arith, known (c .before .before .before .before .before .before) .1)
@@ -151,7 +151,7 @@ returns-5 : tie.Need-returns-5
 returns-5 c tables h =
     let s = c .before .before .before .before .before .before .before .before .before .before .before .before in
     let a = s .args in
-    c .refused5 .ensures ∙ sym (past4 (c .before .before .before) tables h ∙ ruled-stopped (rest 4 s tables) (changeOf (Invoke (s .args .t) (s .args .object) (s .args .mark))) (sym (c .before .before .rings-an-undo .ensures tables h) ∙ c .before .if5 .taken))
+    c .refused5 .ensures ∙ sym (past4 (c .before .before .before) tables h ∙ ruled-stopped (rest 4 s tables) (changeOf tables (transactionsIn (s .args .transactions .now)) (Invoke (s .args .t) (s .args .object) (s .args .mark))) (sym (c .before .before .rings-an-undo .ensures tables h) ∙ c .before .if5 .taken))
 
 refused-requires-6 : tie.Need-refused-requires-6
 refused-requires-6 c κs = search needs
@@ -160,7 +160,7 @@ returns-6 : tie.Need-returns-6
 returns-6 c tables h =
     let s = c .before .before .before .before .before .before .before .before .before .before .before .before .before in
     let a = s .args in
-    c .refused6 .ensures ∙ sym (past5 (c .before .before) tables h ∙ ruled-stopped (rest 5 s tables) (changeOf (Invoke (s .args .t) (s .args .object) (s .args .mark))) (ap (leb mostOperations) (count-in (a .ops .now) (a .n)) ∙ le-leb mostOperations (a .n) (c .before .if6 .taken)))
+    c .refused6 .ensures ∙ sym (past5 (c .before .before) tables h ∙ ruled-stopped (rest 5 s tables) (changeOf tables (transactionsIn (s .args .transactions .now)) (Invoke (s .args .t) (s .args .object) (s .args .mark))) (ap (leb mostOperations) (count-in (a .ops .now) (a .n)) ∙ le-leb mostOperations (a .n) (c .before .if6 .taken)))
 
 accepted-requires : tie.Need-accepted-requires
 accepted-requires c κs = search needs

@@ -47,6 +47,12 @@ enum-known-event-7 c = search needs
 abort-one-requires : tie.Need-abort-one-requires
 abort-one-requires c κs = search needs
 
+enum-known-event-8 : tie.Need-enum-known-event-8
+enum-known-event-8 c = search needs
+
+spawn-requires : tie.Need-spawn-requires
+spawn-requires c κs = search needs
+
 returns : tie.Need-returns
 unfolding rulingOf
 returns c tables h k =
@@ -89,6 +95,12 @@ returns-7 c tables h k =
     let a = c .before .before .before .before .args in
     c .abort-one .ensures tables h ∙ ap (rulingOf tables (stateIn (a .transactions .now) (a .ops .now) (a .n))) (sym (c .before .before .event7 .given .1))
 
+returns-8 : tie.Need-returns-8
+unfolding rulingOf
+returns-8 c tables h k =
+    let a = c .before .before .before .before .args in
+    c .spawn .ensures tables h ∙ ap (rulingOf tables (stateIn (a .transactions .now) (a .ops .now) (a .n))) (sym (c .before .before .event8 .given .1))
+
 pub rule-knowing-spec : {M : Type 1} → statement M
 rule-knowing-spec =
     tie.close
@@ -107,10 +119,13 @@ rule-knowing-spec =
     commit-one-requires
     enum-known-event-7
     abort-one-requires
+    enum-known-event-8
+    spawn-requires
     returns
     returns-2
     returns-3
     returns-4
     returns-5
     returns-6
-    returns-7)
+    returns-7
+    returns-8)

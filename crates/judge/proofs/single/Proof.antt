@@ -3,8 +3,8 @@ use Rattle.terms.specs.declared.Verdict.{Verdict}
 use Rattle.terms.specs.declared.Verdict.the-variants.{Accepted, Refused}
 use Rattle.ties.specs.Operations.{mostOperations}
 use Prim.Native.Nat.{ℕ, _<_}
-use mathlib.Core.Path.{_≡_, sym, ap₂, _∙_}
-use mathlib.Core.Bool.{not, _||_}
+use mathlib.Core.Path.{_≡_, sym, ap, ap₂, _∙_}
+use mathlib.Core.Bool.{Bool, not, _||_}
 use mathlib.Core.List.{List}
 use lib.ListN.{drop}
 use Rattle.laws.specs.Lines.{Line}
@@ -24,7 +24,7 @@ use Rattle.judge.proofs.single.Tie as tie
 
 -- the lines from one on, and what they give
 abbrev rest : ℕ → tie.Start → Tables → List (Line Refusal)
-rest k s tables = drop k (singleLines tables (transactionsIn (s .args .transactions .now)) (opsIn (s .args .ops .now) (s .args .n)) (s .args .t) (s .args .q))
+rest k s tables = drop k (singleLines tables (transactionsIn (s .args .transactions .now)) (opsIn (s .args .ops .now) (s .args .n)) (s .args .t) (s .args .q) (s .args .never))
 
 abbrev from : ℕ → tie.Start → Tables → Verdict
 from k s tables = verdictBy (rest k s tables)
@@ -43,7 +43,7 @@ past2 : (c : tie.Else2) (tables : Tables) → Held (c .before .before .before .b
 past2 c tables h =
     let s = c .before .before .before .before .before in
     let a = s .args in
-    past1 (c .before .before) tables h ∙ passed Refused Accepted (rest 1 s tables) (sym (sorted (λ (x : Sort). not (isPlain x)) (a .sheet .now) tables h (a .t) (c .before .not-plain .ensures)) ∙ c .if2 .left)
+    past1 (c .before .before) tables h ∙ passed Refused Accepted (rest 1 s tables) (sym (ap (λ (b : Bool). b || a .never) (sorted (λ (x : Sort). not (isPlain x)) (a .sheet .now) tables h (a .t) (c .before .not-plain .ensures))) ∙ c .if2 .left)
 
 past3 : (c : tie.Else3) (tables : Tables) → Held (c .before .before .before .before .before .before .before) tables → from 0 (c .before .before .before .before .before .before .before) tables ≡ from 3 (c .before .before .before .before .before .before .before) tables
 past3 c tables h =
@@ -89,7 +89,7 @@ returns-2 : tie.Need-returns-2
 returns-2 c tables h =
     let s = c .before .before .before .before .before in
     let a = s .args in
-    sym (past1 (c .before .before) tables h ∙ stopped Refused Accepted (rest 1 s tables) (sym (sorted (λ (x : Sort). not (isPlain x)) (a .sheet .now) tables h (a .t) (c .before .not-plain .ensures)) ∙ c .if2 .taken))
+    sym (past1 (c .before .before) tables h ∙ stopped Refused Accepted (rest 1 s tables) (sym (ap (λ (b : Bool). b || a .never) (sorted (λ (x : Sort). not (isPlain x)) (a .sheet .now) tables h (a .t) (c .before .not-plain .ensures))) ∙ c .if2 .taken))
 
 inactive-requires : tie.Need-inactive-requires
 inactive-requires c κs = search needs

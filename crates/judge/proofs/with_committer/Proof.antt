@@ -33,6 +33,9 @@ with-member-requires-2 c κs = search needs
 enum-told-5 : tie.Need-enum-told-5
 enum-told-5 c = search needs
 
+enum-told-6 : tie.Need-enum-told-6
+enum-told-6 c = search needs
+
 returns : tie.Need-returns
 returns c = search needs
 
@@ -54,6 +57,9 @@ returns-6 c = c .with-member2 .ensures ∙ ap (λ (e : Event). withCommitter e (
 returns-7 : tie.Need-returns-7
 returns-7 c = search needs
 
+returns-8 : tie.Need-returns-8
+returns-8 c = search needs
+
 pub with-committer-spec : {M : Type 1} → statement M
 with-committer-spec =
     tie.close
@@ -67,10 +73,12 @@ with-committer-spec =
     enum-known-event-2
     with-member-requires-2
     enum-told-5
+    enum-told-6
     returns
     returns-2
     returns-3
     returns-4
     returns-5
     returns-6
-    returns-7)
+    returns-7
+    returns-8)

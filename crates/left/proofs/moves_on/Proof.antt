@@ -35,6 +35,12 @@ enum-told-3 c = search needs
 enum-told-4 : tie.Need-enum-told-4
 enum-told-4 c = search needs
 
+enum-known-event-4 : tie.Need-enum-known-event-4
+enum-known-event-4 c = search needs
+
+sort-at-requires-4 : tie.Need-sort-at-requires-4
+sort-at-requires-4 c κs = search needs
+
 returns : tie.Need-returns
 returns c = c .sort-at .ensures ∙ ap (movesBy (sortAt (c .before .before .before .before .args .sheet .now))) (sym (c .before .before .event .given .1))
 
@@ -56,6 +62,9 @@ returns-6 c = search needs
 returns-7 : tie.Need-returns-7
 returns-7 c = search needs
 
+returns-8 : tie.Need-returns-8
+returns-8 c = c .sort-at4 .ensures ∙ ap (movesBy (sortAt (c .before .before .before .before .args .sheet .now))) (sym (c .before .before .event4 .given .1))
+
 pub moves-on-spec : {M : Type 1} → statement M
 moves-on-spec =
     tie.close
@@ -70,10 +79,13 @@ moves-on-spec =
     enum-told-2
     enum-told-3
     enum-told-4
+    enum-known-event-4
+    sort-at-requires-4
     returns
     returns-2
     returns-3
     returns-4
     returns-5
     returns-6
-    returns-7)
+    returns-7
+    returns-8)

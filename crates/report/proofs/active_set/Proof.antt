@@ -19,6 +19,9 @@ abbrev μ-loop : tie.MeasureT-loop
 loop-holds : tie.Need-loop-holds Inv-loop μ-loop
 loop-holds c = (omega arith, sym (set-of-none _))
 
+mul-x : tie.Need-mul-x Inv-loop μ-loop
+mul-x c = search needs
+
 array-copy-out-x : tie.Need-array-copy-out-x Inv-loop μ-loop
 array-copy-out-x c = search needs
 
@@ -60,6 +63,7 @@ active-set-spec =
     Inv-loop
     μ-loop
     loop-holds
+    mul-x
     array-copy-out-x
     is-active-requires
     with-member-requires

@@ -17,10 +17,10 @@ use Rattle.rows.proofs.ring_with.Tie as tie
 small : (c : tie.After-rows-with) (a b : ℕ) → memAt (c .rows-with .result) a b ≡ true → (a < 64) × (b < 64)
 small c a b h =
     let s = c .before .before .args in
-    ties-small (s .total) (readWith (s .ops .now) (s .at) (s .x)) a b (sym (c .rows-with .ensures a b) ∙ h)
+    ties-small (s .total) (readWith (s .ops .now) (s .giver) (s .receiver) (s .at) (s .x)) a b (sym (c .rows-with .ensures a b) ∙ h)
 
 of-order : (c : tie.After-rows-with) → ringWith (memAt (c .rows-with .result)) (mem (c .before .before .args .some)) (c .before .before .args .v)
-    ≡ ringWith (tiesOf (c .before .before .args .total) (readWith (c .before .before .args .ops .now) (c .before .before .args .at) (c .before .before .args .x))) (mem (c .before .before .args .some)) (c .before .before .args .v)
+    ≡ ringWith (tiesOf (c .before .before .args .total) (readWith (c .before .before .args .ops .now) (c .before .before .args .giver) (c .before .before .args .receiver) (c .before .before .args .at) (c .before .before .args .x))) (mem (c .before .before .args .some)) (c .before .before .args .v)
 of-order c =
     ap (λ (R : ℕ → ℕ → Bool). ringWith R (mem (c .before .before .args .some)) (c .before .before .args .v)) (fun-ext (λ a. fun-ext (λ k. c .rows-with .ensures a k)))
 
@@ -30,7 +30,7 @@ shared c = shared-by (c .before .before .led-from .result) (c .before .before .b
 returns : tie.Need-returns
 returns c =
     let s = c .before .args in
-    let op = readWith (s .ops .now) (s .at) (s .x) in
+    let op = readWith (s .ops .now) (s .giver) (s .receiver) (s .at) (s .x) in
     sym (ring-past (tiesOf (s .total) op) (ties-small (s .total) op) (s .some) (s .v) (omega arith))
 
 rows-with-requires : tie.Need-rows-with-requires

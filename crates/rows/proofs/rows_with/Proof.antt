@@ -13,7 +13,7 @@ sweep-requires c κs = (omega arith, λ i h l. c .before .before .before .before
 returns : tie.Need-returns
 returns c =
     let a = c .before .before .before .before .before .args in
-    let op = readWith (a .ops .now) (a .at) (a .x) in
+    let op = readWith (a .ops .now) (a .giver) (a .receiver) (a .at) (a .x) in
     swept-all (a .total) op _ _ _
     (c .sweep .ensures (a .total) op (omega arith) (λ i h l. rw (ne-eqb i (a .at) (λ e. omega arith))) (swept-none (a .total) op))
 
@@ -32,7 +32,7 @@ sweep-requires-3 c κs = (omega arith, λ i h l. c .before .before .before .befo
 returns-2 : tie.Need-returns-2
 returns-2 c =
     let a = c .before .before .before .before .before .before .before .before .before .before .before .before .before .args in
-    let op = readWith (a .ops .now) (a .at) (a .x) in
+    let op = readWith (a .ops .now) (a .giver) (a .receiver) (a .at) (a .x) in
     swept-all (a .total) op _ _ _
     (c .sweep3 .ensures (a .total) op (omega arith) (λ i h l. rw (ne-eqb i (a .at) (λ e. omega arith)))
     (c .before .before .before .before .sweep-one .ensures (a .total) op (a .at) (omega arith) (rw (eq-eqb (a .at) (a .at) refl))

@@ -12,6 +12,9 @@ returns c =
     let whole : length (c .before .args .t1) ≡ mostTransactions = search needs in
     sym (past-idle (c .before .args .t1) (c .before .args .t) (omega arith))
 
+mul-x : tie.Need-mul-x
+mul-x c = search needs
+
 array-copy-out-x : tie.Need-array-copy-out-x
 array-copy-out-x c = search needs
 
@@ -19,4 +22,4 @@ returns-2 : tie.Need-returns-2
 returns-2 c = search needs
 
 pub phase-of-spec : {M : Type 1} → statement M
-phase-of-spec = tie.close (tie.spec returns array-copy-out-x returns-2)
+phase-of-spec = tie.close (tie.spec returns mul-x array-copy-out-x returns-2)
