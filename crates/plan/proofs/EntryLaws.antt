@@ -18,7 +18,7 @@ use Rattle.plan.proofs.TextLaws.{length-within}
 -- ---- lines
 
 -- the first line, and the lines behind it
-lines-cons : (b : ℕ) (s : List ℕ)
+pub lines-cons : (b : ℕ) (s : List ℕ)
     → linesOf (b ∷ s) ≡ take (lineLength (b ∷ s)) (b ∷ s) ∷ linesOf (drop (suc (lineLength (b ∷ s))) (b ∷ s))
 unfolding linesOf lineLength
 lines-cons b [] = bool-cases (eqb b 10) (λ e. rw e) (λ e. rw e)

@@ -305,14 +305,14 @@ impl Word {
 }
 
 // A blank or a tab; around a line a carriage return too.
-fn is_blank(b: u8, around: bool) -> bool
+pub fn is_blank(b: u8, around: bool) -> bool
     ensures { λ r. ⌜ r ≡ isBlank around b ⌝ }
 {
     (b == 32) | ((b == 9) | (around & (b == 13)))
 }
 
 // Without the blanks at the front.
-fn past_blanks<'a>(line: &'a [u8], around: bool) -> &'a [u8]
+pub fn past_blanks<'a>(line: &'a [u8], around: bool) -> &'a [u8]
     ensures { λ r. ⌜ now r ≡ pastBlanks around (now (line .entry)) ⌝ }
 {
     let mut i: usize = 0;
@@ -341,7 +341,7 @@ fn up_to_blanks<'a>(line: &'a [u8]) -> &'a [u8]
 }
 
 // Where the line that starts at a place ends.
-fn line_end(text: &[u8], at: usize) -> usize
+pub fn line_end(text: &[u8], at: usize) -> usize
     ensures { λ r. ⌜ r ≡ at + lineLength (drop at (now (text .entry))) ⌝ }
 {
     let mut end = at;
