@@ -3,12 +3,10 @@
 #![allow(dead_code)]
 
 mod clock;
-#[path = "../link/sagalib.rs"]
-mod sagalib;
 
 fn listed(book: &[u8]) -> u64 {
     let mut room = vec![0; sagalib::LISTING_BYTES];
-    sagalib::listing(book, sagalib::Way::READ_ON, &mut room).count
+    sagalib::listing(book, sagalib::Way::READ_ON, &mut room).map_or(0, |answer| answer.count)
 }
 
 #[no_mangle]

@@ -3,12 +3,10 @@
 #![allow(dead_code)]
 
 mod clock;
-#[path = "../link/sagalib.rs"]
-mod sagalib;
 
 fn listed(book: &[u8]) -> u64 {
     let mut list = [0; sagalib::TRANSACTIONS];
-    sagalib::replay(book, sagalib::Way::READ_ON, &mut list).count
+    sagalib::replay(book, sagalib::Way::READ_ON, &mut list).map_or(0, |answer| answer.count)
 }
 
 #[no_mangle]

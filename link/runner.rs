@@ -5,11 +5,9 @@
 //! It starts as a C program does. Rust's own start looks up where the stack lies, which the emulator of another processor cannot tell.
 #![no_main]
 
-#[allow(dead_code)]
-mod sagalib;
-
 use sagalib::{
-    left, opening, read, Desk, Event, Mark, Phase, Way, BOOK_BYTES, LINE_BYTES, TRANSACTIONS,
+    BOOK_BYTES, Desk, Event, LINE_BYTES, Mark, Phase, Refusal, TRANSACTIONS, Way, left, opening,
+    read,
 };
 
 /// One move of three steps: saga 0, steps 1 to 3, undos 4 and 5. Then two clerks, 6 and 7. Two objects. No dependencies.
@@ -20,9 +18,6 @@ const CLERKS: std::ops::Range<u64> = 6..8;
 /// What it takes to put everything back is kept free in the book. The closing steps of all sagas and the aborts of all clerks are events of two bytes, and never
 /// more than there are transactions; and an undo here writes one object, in an event of four.
 const KEPT_FREE: usize = (2 + 4) * TRANSACTIONS;
-
-/// The refusal of a book that is too long.
-const TOO_LONG: u64 = 1;
 
 /// A book and the desk that stands for it. A service has the book in a file, and an event is written there, and safe there, before anything is done.
 struct Runner {
@@ -55,33 +50,33 @@ fn bytes(event: Event) -> Vec<u8> {
 
 impl Runner {
     /// What comes first after a crash: the torn end is cut off, and the desk opened on what is left.
-    fn come_up(book: &[u8]) -> Result<Runner, u64> {
+    fn come_up(book: &[u8]) -> Result<Runner, Refusal> {
         let book = opening(book).to_vec();
-        let (desk, answer) = Desk::open(&book, Way::READ_ON);
-        match answer.refusal {
-            0 => Ok(Runner { book, desk }),
-            refusal => Err(refusal),
+        let (desk, opened) = Desk::open(&book, Way::READ_ON);
+        match opened {
+            Ok(_) => Ok(Runner { book, desk }),
+            Err(refused) => Err(refused.refusal),
         }
     }
 
     /// Asks for an event, and if it is allowed writes it down and takes it.
-    fn record(&mut self, event: Event, free: usize) -> Result<(), u64> {
+    fn record(&mut self, event: Event, free: usize) -> Result<(), Refusal> {
         self.desk.ask(event)?;
         let bytes = bytes(event);
         if BOOK_BYTES < self.book.len() + bytes.len() + free {
-            return Err(TOO_LONG);
+            return Err(Refusal::TooLong);
         }
         self.book.extend(bytes);
         self.desk.take(event)
     }
 
-    fn work(&mut self, event: Event) -> Result<(), u64> {
+    fn work(&mut self, event: Event) -> Result<(), Refusal> {
         self.record(event, KEPT_FREE)
     }
 
     /// Ends everything that was at work. The clerks are dead, and go first: an undo would have to wait for what they hold (17). Then saga after saga,
     /// one closing step after another; an undo does its own writes when it is begun. Each of these is accepted, and each leaves one less to do.
-    fn put_back(&mut self) -> Result<(), u64> {
+    fn put_back(&mut self) -> Result<(), Refusal> {
         for t in CLERKS {
             if self.desk.phase(t) == Some(Phase::Active) {
                 self.record(Event::Abort(t), 0)?;
@@ -105,7 +100,8 @@ impl Runner {
     fn show(&self) {
         let mut room = [0; LINE_BYTES];
         for k in 0.. {
-            let n = self.desk.line(k, &mut room).count as usize;
+            let line = self.desk.line(k, &mut room);
+            let n = line.map_or(0, |put| put.count) as usize;
             if n == 0 {
                 return;
             }
@@ -114,7 +110,7 @@ impl Runner {
     }
 }
 
-fn run() -> Result<(), u64> {
+fn run() -> Result<(), Refusal> {
     let mut runner = Runner::come_up(&TABLES)?;
     // the first step writes and is done, the second is begun; one that comes too early is not written down
     runner.work(Event::Begin(MOVE))?;
@@ -122,7 +118,7 @@ fn run() -> Result<(), u64> {
     runner.work(Event::Operation(1, 0, Mark::Write, 0))?;
     runner.work(Event::Commit(1))?;
     runner.work(Event::Begin(2))?;
-    assert_eq!(runner.work(Event::Begin(3)), Err(13));
+    assert_eq!(runner.work(Event::Begin(3)), Err(Refusal::SagaRule));
     // a clerk is at work on the same object, and the program stops while it writes down an event
     runner.work(Event::Begin(6))?;
     runner.work(Event::Operation(6, 0, Mark::Write, 0))?;
@@ -133,12 +129,12 @@ fn run() -> Result<(), u64> {
     runner.put_back()?;
     runner.show();
     // the book is whole again, nothing in it is refused, and nothing is left to do
-    assert_eq!(read(&runner.book, Way::TO_FIRST_REFUSAL).refusal, 0);
+    assert!(read(&runner.book, Way::TO_FIRST_REFUSAL).is_ok());
     assert_eq!(left(&runner.book, Way::READ_ON), 0);
     Ok(())
 }
 
-#[no_mangle]
+#[unsafe(no_mangle)]
 pub extern "C" fn main() -> i32 {
     match run() {
         Ok(()) => 0,

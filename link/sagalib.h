@@ -6,7 +6,7 @@
    answer overlap nothing else that is passed; and no pointer is NULL, not even with a count of 0: pass the address of anything then, "" say.
 
    No function keeps anything between two calls, takes memory from the heap or writes anywhere but into what it is lent to write: a room, a list, an answer, a step, totals, a share,
-   a desk. */
+   a desk. On the stack saga_write takes some 78,000 bytes, reading and opening a desk some 30,000, asking and taking an event some 1,600; link/README.md has each as it was measured. */
 #ifndef SAGALIB_H
 #define SAGALIB_H
 

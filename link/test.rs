@@ -1,14 +1,13 @@
-//! Calls libsagalib.a through sagalib.rs. What differs from the rules is told, and the status is then 1.
+//! Calls libsagalib.a through the package sagalib. What differs from the rules is told, and the status is then 1.
 //!
 //! It starts as a C program does. Rust's own start looks up where the stack lies, which the emulator of another processor cannot tell.
 #![no_main]
 
-mod sagalib;
-
 use sagalib::{
-    add, left, listing, mend, next, opening, read, refused, replay, share, unpack, write, Answer,
-    Desk, Event, Mark, Mended, Operation, Phase, Share, Step, Tally, Totals, Way, BOOK_BYTES,
-    LINE_BYTES, LISTING_BYTES, MOST_1, MOST_2, OPERATIONS, SAGAS, TRANSACTIONS,
+    Answer, BOOK_BYTES, Desk, Event, LINE_BYTES, LISTING_BYTES, MOST_1, MOST_2, Mark, Mended,
+    OPERATIONS, Operation, Phase, Refusal, Refused, SAGAS, Share, Step, TRANSACTIONS, Tally,
+    Totals, Way, add, left, listing, mend, next, opening, read, refused, replay, share, unpack,
+    write,
 };
 
 const ON: Way = Way::READ_ON;
@@ -35,8 +34,7 @@ const LISTED: [u8; 24] = [
 ];
 
 /// The lines of its listing behind the first, each with a line feed.
-const LATER_LINES: &str =
-    "t 0 aborted\nt 1 committed\nt 2 idle\nt 3 idle\nt 4 active\nop 0 0 write 4 active\nsaga 0 2 begin 3\n";
+const LATER_LINES: &str = "t 0 aborted\nt 1 committed\nt 2 idle\nt 3 idle\nt 4 active\nop 0 0 write 4 active\nsaga 0 2 begin 3\n";
 
 /// A saga that is settled.
 const NOTHING: Option<Step> = Some(Step {
@@ -45,12 +43,18 @@ const NOTHING: Option<Step> = Some(Step {
     settled: true,
 });
 
-fn answer(refusal: u64, events: u64, place: u64, count: u64) -> Answer {
-    Answer {
-        refusal,
-        events,
-        place,
-        count,
+type Answered = Result<Answer, Refused>;
+
+/// The answer that has these four numbers in the library.
+fn answer(number: u64, events: u64, place: u64, count: u64) -> Answered {
+    match Refusal::of(number) {
+        None => Ok(Answer { events, count }),
+        Some(refusal) => Err(Refused {
+            refusal,
+            events,
+            place,
+            passed: count,
+        }),
     }
 }
 
@@ -85,14 +89,14 @@ fn has_listing(book: &[u8], way: Way, text: &str, events: u64) {
 }
 
 /// A book cannot be unpacked, and the room is left as it was.
-fn is_not_unpacked(book: &[u8], refused: Answer) {
+fn is_not_unpacked(book: &[u8], refused: Answered) {
     let mut room = vec![FIELD; book.len() + 8];
     assert_eq!(unpack(book, &mut room), refused);
     assert!(room.iter().all(|f| *f == FIELD));
 }
 
 /// Fields are not written, and the room is left as it was.
-fn is_not_written(fields: &[u32], refused: Answer) {
+fn is_not_written(fields: &[u32], refused: Answered) {
     let mut room = vec![BYTE; 3 * fields.len() + 8];
     assert_eq!(write(fields, &mut room), refused);
     assert!(room.iter().all(|b| *b == BYTE));
@@ -103,7 +107,7 @@ fn goes_and_comes_back(book: &[u8], events: u64) {
     let size = book.len();
     let mut fields = vec![FIELD; size + 8];
     let unpacked = unpack(book, &mut fields);
-    let count = unpacked.count as usize;
+    let count = unpacked.unwrap().count as usize;
     assert_eq!(unpacked, answer(0, events, 0, count as u64));
     assert!(count <= size);
     assert!(fields[count..].iter().all(|f| *f == FIELD));
@@ -312,8 +316,8 @@ fn comes_whole(torn: &[u8], whole: &[u8], kept: u64, dropped: u64, added: u64) {
     let size = whole.len();
     for fits in [BOOK_BYTES, size] {
         let mut room = vec![BYTE; BOOK_BYTES];
-        let (told, came) = mend(torn, &mut room[..fits]);
-        assert_eq!(told, answer(0, kept, 0, size as u64));
+        let (told, came) = mend(torn, &mut room[..fits]).unwrap();
+        assert_eq!(Ok(told), answer(0, kept, 0, size as u64));
         assert_eq!(
             came,
             Mended::Written {
@@ -332,17 +336,17 @@ fn comes_whole(torn: &[u8], whole: &[u8], kept: u64, dropped: u64, added: u64) {
 fn is_whole(book: &[u8], events: u64) {
     for size in [0, BOOK_BYTES] {
         let mut room = vec![BYTE; size];
-        let (told, came) = mend(book, &mut room);
-        assert_eq!(told, answer(0, events, 0, 0));
+        let (told, came) = mend(book, &mut room).unwrap();
+        assert_eq!(Ok(told), answer(0, events, 0, 0));
         assert_eq!(came, Mended::Own(book));
         assert!(room.iter().all(|b| *b == BYTE));
     }
 }
 
 /// A book is not mended in a room of so many bytes, which is left as it was.
-fn is_not_mended(book: &[u8], size: usize, refused: Answer) {
+fn is_not_mended(book: &[u8], size: usize, refused: Answered) {
     let mut room = vec![BYTE; size];
-    assert_eq!(mend(book, &mut room), (refused, Mended::Refused));
+    assert_eq!(mend(book, &mut room).map(|(told, _)| told), refused);
     assert!(room.iter().all(|b| *b == BYTE));
 }
 
@@ -432,24 +436,24 @@ fn term_figures() {
     let settled = [&LISTED[..], &[0x01, 0x03, 0x02, 0x03]].concat();
     let mut term = Totals::default();
     assert_eq!(share(&term), Share { part: 0, whole: 1 });
-    assert_eq!(add(&LISTED, &mut term), 0);
+    assert_eq!(add(&LISTED, &mut term), Ok(()));
     assert_eq!(term, totals(1, 0, 1, 0, 1));
     assert_eq!(share(&term), Share { part: 0, whole: 1 });
-    assert_eq!(add(&settled, &mut term), 0);
-    assert_eq!(add(&LISTED[..23], &mut term), 2);
-    assert_eq!(add(&[], &mut term), 2);
+    assert_eq!(add(&settled, &mut term), Ok(()));
+    assert_eq!(add(&LISTED[..23], &mut term), Err(Refusal::Torn));
+    assert_eq!(add(&[], &mut term), Err(Refusal::Torn));
     assert_eq!(term, totals(4, 2, 3, 1, 2));
     assert_eq!(share(&term), Share { part: 1, whole: 3 });
     // the 1,000th book is read, the 1,001st is not
     term.books = 999;
-    assert_eq!(add(&settled, &mut term), 0);
+    assert_eq!(add(&settled, &mut term), Ok(()));
     assert_eq!(term, totals(1000, 2, 4, 2, 2));
     assert_eq!(share(&term), Share { part: 1, whole: 2 });
-    assert_eq!(add(&settled, &mut term), 23);
+    assert_eq!(add(&settled, &mut term), Err(Refusal::TooManyBooks));
     assert_eq!(term, totals(1000, 2, 4, 2, 2));
     // totals that no books have
     let mut most = totals(0, u64::MAX, u64::MAX, 0, u64::MAX);
-    assert_eq!(add(&LISTED, &mut most), 0);
+    assert_eq!(add(&LISTED, &mut most), Ok(()));
     assert_eq!(most, totals(1, 16_000, 16_001, 0, 16_001));
 }
 
@@ -553,13 +557,12 @@ fn lines(desk: &Desk) -> String {
     let mut text = String::new();
     let mut room = [BYTE; LINE_BYTES];
     for k in 0.. {
-        let put = desk.line(k, &mut room);
-        let n = put.count as usize;
-        assert_eq!(put.refusal, 0);
+        let n = desk.line(k, &mut room).unwrap().count as usize;
         if n == 0 {
             break;
         }
-        assert_eq!(desk.line(k, &mut room[..n - 1]).refusal, 19);
+        let small = desk.line(k, &mut room[..n - 1]).unwrap_err();
+        assert_eq!(small.refusal, Refusal::NoRoom);
         text.push_str(std::str::from_utf8(&room[..n]).unwrap());
     }
     text
@@ -621,8 +624,8 @@ fn desk_of_a_torn_book() {
     let (mut desk, read) = Desk::open(&LISTED[..23], ON);
     assert_eq!(read, answer(2, 6, 23, 0));
     let before = desk.clone();
-    assert_eq!(desk.ask(Event::Abort(0)), Err(2));
-    assert_eq!(desk.take(Event::Abort(0)), Err(2));
+    assert_eq!(desk.ask(Event::Abort(0)), Err(Refusal::Torn));
+    assert_eq!(desk.take(Event::Abort(0)), Err(Refusal::Torn));
     assert_eq!(desk, before);
     assert_eq!(desk.next(0), step(Event::Abort(0), 3));
 }
@@ -634,8 +637,8 @@ fn desk_of_edition_two() {
     let write = |record| Event::Operation(0, 0, Mark::Write, record);
     let most = u64::from(MOST_2);
     let before = desk.clone();
-    assert_eq!(desk.ask(write(most + 1)), Err(3));
-    assert_eq!(desk.take(write(most + 1)), Err(3));
+    assert_eq!(desk.ask(write(most + 1)), Err(Refusal::BadNumber));
+    assert_eq!(desk.take(write(most + 1)), Err(Refusal::BadNumber));
     assert_eq!(desk, before);
     assert_eq!(desk.take(write(most)), Ok(()));
     assert_eq!(
@@ -710,11 +713,12 @@ fn desks_of_any_numbers() {
             desk.phase(numbers.below(70));
             desk.operation(numbers.below(300));
             desk.next(numbers.below(20));
-            desk.line(numbers.below(400), &mut [BYTE; LINE_BYTES]);
+            desk.line(numbers.below(400), &mut [BYTE; LINE_BYTES])
+                .unwrap();
         }
         desk.tally();
         desk.pairs();
-        desk.replay(&mut [TRANSACTION; TRANSACTIONS]);
+        desk.replay(&mut [TRANSACTION; TRANSACTIONS]).unwrap();
     }
 }
 
@@ -733,7 +737,7 @@ fn asked_taken_and_read() {
         for _ in 0..120 {
             let event = numbers.event();
             let longer = [book.clone(), bytes(event, edition)].concat();
-            let was = read(&book, way);
+            let was = read(&book, way).unwrap();
             let before = desk.clone();
             let asked = desk.ask(event);
             assert_eq!(desk, before);
@@ -741,19 +745,22 @@ fn asked_taken_and_read() {
             let (mut opened, now) = Desk::open(&longer, way);
             match (way.to_first_refusal, asked) {
                 (false, Ok(())) => assert_eq!(now, answer(0, was.events + 1, 0, was.count)),
-                (false, Err(number)) => {
+                (false, Err(refusal)) => {
                     assert_eq!(now, answer(0, was.events, 0, was.count + 1));
                     let mut last = [0; 2];
                     assert_eq!(refused(&longer, way, was.count, &mut last), 1);
-                    assert_eq!(last, [was.events + was.count, number]);
+                    assert_eq!(last, [was.events + was.count, refusal.number()]);
                 }
                 (true, Ok(())) => {
                     assert_eq!(now, answer(0, was.events + 1, 0, 0));
                     // refused events are not in the book, and only the desk has counted them
                     opened.counts[2] = desk.counts[2];
                 }
-                (true, Err(number)) => {
-                    assert_eq!(now, answer(number, was.events, book.len() as u64, 0));
+                (true, Err(refusal)) => {
+                    assert_eq!(
+                        now,
+                        answer(refusal.number(), was.events, book.len() as u64, 0)
+                    );
                     continue;
                 }
             }
@@ -800,7 +807,7 @@ fn many_refused() {
 }
 
 /// A stack of 128 KiB is enough for every function.
-#[no_mangle]
+#[unsafe(no_mangle)]
 pub extern "C" fn main() -> i32 {
     let thread = std::thread::Builder::new().stack_size(128 * 1024);
     match thread.spawn(all).map(|started| started.join()) {

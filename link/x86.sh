@@ -1,7 +1,7 @@
 # shellcheck shell=bash
 # Programs for x86-64, which the proved library is code for: how they are compiled, linked and run on this machine. To be sourced.
 # On x86-64 the machine's own cc and rustc make them. On another processor the toolchain's compiler, linker, C library and emulator serve,
-# and Rust's library for x86-64 is that of the installed rustc, or else what link/fetch-x86 fetches.
+# and Rust's library for x86-64 is that of the installed rustc, or else what link/fetch-x86 has fetched. Nothing is fetched from here.
 root=$(cd "$(dirname "${BASH_SOURCE[0]}")/.." && pwd) || exit 2
 if ! command -v rt >/dev/null; then
   echo "the Rattle toolchain (rt) is not on this machine" >&2
@@ -87,7 +87,7 @@ c_linked_by_toolchain() {
     "$tools/lib/libc.so.6" "$tools/lib/libc_nonshared.a" "$tools/lib/libgcc.a" "$tools/lib/crtendS.o" "$tools/lib/crtn.o"
 }
 
-# ---- Rust: which compiler, and a library or a program from a source with more words for the compiler
+# ---- Rust: which compiler, and a library or a program from a source with more words for the compiler; the edition is 2021 where none is set
 
 fetched=$root/target/x86
 rustc_fetched() {
@@ -101,21 +101,26 @@ has_library() {
   libraries=$("$1" --print target-libdir --target $target 2>/dev/null) && compgen -G "$libraries/libstd-*.rlib" >/dev/null
 }
 
-# Sets `compiler`; fails where no Rust library for x86-64 can be had.
+# Sets `compiler`; fails where there is no Rust library for x86-64.
 find_rust() {
   if has_library rustc; then
     compiler=rustc
-  elif has_library rustc_fetched || { "$root/link/fetch-x86" >/dev/null 2>&1 && has_library rustc_fetched; }; then
+  elif has_library rustc_fetched; then
     compiler=rustc_fetched
   else
     return 1
   fi
 }
 
+# That there is none, and what to do about it.
+no_rust() {
+  echo "there is no Rust library for x86-64 on this machine; 'rustup target add $target' installs it, or link/fetch-x86 fetches it from the packages of Debian into target/x86, 400 MB, once"
+}
+
 rust_compiled() {
   local out=$1 source=$2
   shift 2
-  $compiler --edition 2021 --target $target "$@" -o "$out" "$source"
+  $compiler --edition "${edition:-2021}" --target $target "$@" -o "$out" "$source"
 }
 
 # The second program's library, for programs that name it with --extern.
@@ -123,6 +128,13 @@ second_library() {
   local out=$1
   shift
   rust_compiled "$out" "$root/second/src/lib.rs" --crate-type rlib --crate-name second "$@"
+}
+
+# The package sagalib, likewise; its own edition is 2024.
+saga_library() {
+  local out=$1
+  shift
+  edition=2024 rust_compiled "$out" "$root/link/sagalib/src/lib.rs" --crate-type rlib --crate-name sagalib -L "native=$root/target/staticlib" "$@"
 }
 
 rust_program() {

@@ -2,6 +2,10 @@
 //!
 //! Each takes any bytes and any numbers; nothing has to be looked at first, and a refusal is an answer like any other. No function keeps
 //! anything between two calls, takes memory from the heap or writes anywhere but into what it is lent to write.
+//!
+//! A program that asks before it writes, which stands in `examples/first.rs` and is run by `link/run`:
+//!
+#![doc = concat!("```\n", include_str!("../examples/first.rs"), "```")]
 
 #[cfg(not(target_arch = "x86_64"))]
 compile_error!("libsagalib.a is code for x86-64");
@@ -54,18 +58,135 @@ impl Way {
     }
 }
 
-/// The answer of every function that can refuse, but `add`: always the same four numbers.
+/// Why something is refused, by the numbers of the table of refusals.
+#[derive(Clone, Copy, Debug, PartialEq, Eq, PartialOrd, Ord, Hash)]
+#[repr(u64)]
+pub enum Refusal {
+    /// The book is longer than 65,536 bytes.
+    TooLong = 1,
+    /// The book ends inside a number, or before a field that is due.
+    Torn = 2,
+    /// A number is not in its shortest form, or is above the ceiling of the edition.
+    BadNumber = 3,
+    /// The edition is neither 1 nor 2.
+    BadEdition = 4,
+    /// A table count is out of its range, or there are more than 64 transactions.
+    BadCount = 5,
+    /// A dependency may not be declared, or is not rising.
+    BadDependency = 6,
+    /// The code is none of the list of events.
+    BadCode = 7,
+    /// A transaction, object or mark is not in the tables, or an operation number not accepted so far.
+    NotInTables = 8,
+    /// That sort of transaction never does this, or it delegates to itself.
+    NeverDoes = 9,
+    /// It was begun before.
+    NotIdle = 10,
+    /// It is not active, or the receiver is not.
+    NotActive = 11,
+    /// It is not responsible for that operation.
+    NotResponsible = 12,
+    /// A saga rule forbids it.
+    SagaRule = 13,
+    /// A declared dependency forbids it.
+    DependencyRule = 14,
+    /// It has a dirty read.
+    DirtyRead = 15,
+    /// It is on a ring.
+    OnRing = 16,
+    /// The undo must wait.
+    MustWait = 17,
+    /// There are 256 operations already.
+    Full = 18,
+    /// The lent room is too small.
+    NoRoom = 19,
+    /// That operation has ended already.
+    AlreadyEnded = 20,
+    /// The tables can never move.
+    NeverMoves = 21,
+    /// It would put an active undo on a ring.
+    UndoOnRing = 22,
+    /// There are 1,000 books in the totals already; of `add` alone.
+    TooManyBooks = 23,
+}
+
+impl Refusal {
+    /// Its number in the table.
+    pub fn number(self) -> u64 {
+        self as u64
+    }
+
+    /// The refusal of a number, if it is one of those that this library gives.
+    pub fn of(number: u64) -> Option<Refusal> {
+        Some(match number {
+            1 => Refusal::TooLong,
+            2 => Refusal::Torn,
+            3 => Refusal::BadNumber,
+            4 => Refusal::BadEdition,
+            5 => Refusal::BadCount,
+            6 => Refusal::BadDependency,
+            7 => Refusal::BadCode,
+            8 => Refusal::NotInTables,
+            9 => Refusal::NeverDoes,
+            10 => Refusal::NotIdle,
+            11 => Refusal::NotActive,
+            12 => Refusal::NotResponsible,
+            13 => Refusal::SagaRule,
+            14 => Refusal::DependencyRule,
+            15 => Refusal::DirtyRead,
+            16 => Refusal::OnRing,
+            17 => Refusal::MustWait,
+            18 => Refusal::Full,
+            19 => Refusal::NoRoom,
+            20 => Refusal::AlreadyEnded,
+            21 => Refusal::NeverMoves,
+            22 => Refusal::UndoOnRing,
+            23 => Refusal::TooManyBooks,
+            _ => return None,
+        })
+    }
+}
+
+impl std::fmt::Display for Refusal {
+    fn fmt(&self, out: &mut std::fmt::Formatter) -> std::fmt::Result {
+        write!(out, "refused by {}", self.number())
+    }
+}
+
+impl std::error::Error for Refusal {}
+
+/// The answer of a function where nothing is refused.
 #[derive(Clone, Copy, Debug, PartialEq, Eq)]
 pub struct Answer {
-    /// The refusal's number in the table of refusals; 0 if nothing ended the reading; see `count`.
-    pub refusal: u64,
-    /// How many events of the book are accepted, before the refusal if there is one.
+    /// How many events of the book are accepted.
     pub events: u64,
-    /// Where the refusal is: in bytes of the book, or for `write` in fields; 0 if there is none.
-    pub place: u64,
-    /// How many bytes, fields or transactions were written, 0 after a refusal; of `read`, how many events were passed over.
+    /// How many bytes, fields or transactions were written; of `read`, how many events were refused and passed over.
     pub count: u64,
 }
+
+/// The answer of a function where something is.
+#[derive(Clone, Copy, Debug, PartialEq, Eq)]
+pub struct Refused {
+    pub refusal: Refusal,
+    /// How many events of the book are accepted before it.
+    pub events: u64,
+    /// Where the refusal is: in bytes of the book, or for `write` in fields.
+    pub place: u64,
+    /// Of `read`, how many events were refused and passed over before it; of the others 0.
+    pub passed: u64,
+}
+
+impl std::fmt::Display for Refused {
+    fn fmt(&self, out: &mut std::fmt::Formatter) -> std::fmt::Result {
+        write!(
+            out,
+            "{} at {}, behind {} events",
+            self.refusal, self.place, self.events
+        )
+    }
+}
+
+impl std::error::Error for Refused {}
 
 /// What an operation does to its object.
 #[derive(Clone, Copy, Debug, PartialEq, Eq)]
@@ -161,8 +282,6 @@ pub struct Tally {
 /// The book that came of mending one.
 #[derive(Clone, Copy, Debug, PartialEq, Eq)]
 pub enum Mended<'a> {
-    /// None: it was refused.
-    Refused,
     /// The caller's own, with which nothing was wrong.
     Own(&'a [u8]),
     /// The written part of the room, for which so many bytes of the caller's book were dropped and so many closing steps added.
@@ -200,7 +319,7 @@ pub struct Share {
 mod archive {
     // A slice crosses as a pointer and how many elements it has.
     #[link(name = "sagalib", kind = "static")]
-    extern "C" {
+    unsafe extern "C" {
         pub fn saga_read(book: *const u8, book_count: usize, way: u64, answer: *mut [u64; 4]);
         pub fn saga_refused(
             book: *const u8,
@@ -349,19 +468,30 @@ mod archive {
 // Each function of the archive reads the elements of the slices it is handed and writes those of the mutable ones, and no others: that is
 // proved. A Rust slice is as many elements as it says, and a mutable one overlaps nothing else. So each call below is sound.
 
-fn answered(numbers: [u64; 4]) -> Answer {
-    let [refusal, events, place, count] = numbers;
-    Answer {
-        refusal,
-        events,
-        place,
-        count,
+/// The refusal of a number that the library answers; none for 0.
+fn refusal_of(number: u64) -> Option<Refusal> {
+    match number {
+        0 => None,
+        _ => Some(Refusal::of(number).expect("the library gives the refusals of its table alone")),
+    }
+}
+
+fn answered(numbers: [u64; 4]) -> Result<Answer, Refused> {
+    let [number, events, place, count] = numbers;
+    match refusal_of(number) {
+        None => Ok(Answer { events, count }),
+        Some(refusal) => Err(Refused {
+            refusal,
+            events,
+            place,
+            passed: count,
+        }),
     }
 }
 
 /// Reads a book. Reading on, the answer is the refusal that ends the reading (1 to 7 or 21), if there is one; its count is how many events were
 /// refused by any other and passed over. To the first refusal, the answer is that, and no event is passed over.
-pub fn read(book: &[u8], way: Way) -> Answer {
+pub fn read(book: &[u8], way: Way) -> Result<Answer, Refused> {
     let mut answer = [0; 4];
     unsafe { archive::saga_read(book.as_ptr(), book.len(), way.number(), &mut answer) };
     answered(answer)
@@ -390,7 +520,7 @@ pub fn opening(book: &[u8]) -> &[u8] {
 }
 
 /// Puts the listing of a book at the front of the room. 19 is the only refusal here, since every book has a listing.
-pub fn listing(book: &[u8], way: Way, room: &mut [u8]) -> Answer {
+pub fn listing(book: &[u8], way: Way, room: &mut [u8]) -> Result<Answer, Refused> {
     let mut answer = [0; 4];
     unsafe {
         archive::saga_listing(
@@ -439,7 +569,7 @@ pub fn left(book: &[u8], way: Way) -> u64 {
 /// Puts the transactions that hold a committed operation after the accepted events of a book at the front of the list, in an order in which their
 /// committed changes can be copied one transaction at a time. The count is how many there are, 0 if the tables are refused; 19 is the only refusal here,
 /// since every book has an order.
-pub fn replay(book: &[u8], way: Way, list: &mut [u16]) -> Answer {
+pub fn replay(book: &[u8], way: Way, list: &mut [u16]) -> Result<Answer, Refused> {
     let mut answer = [0; 4];
     unsafe {
         archive::saga_replay(
@@ -458,7 +588,7 @@ pub fn replay(book: &[u8], way: Way, list: &mut [u16]) -> Answer {
 /// room. Of any other the accepted opening is put at the front of the room, and behind it the closing steps of every begun saga that is not settled, saga after saga; such
 /// a book is accepted whole, and mending it hands it back. An event refused in the middle is dropped with all behind it, and transactions that belong to no saga stay open. The
 /// answer's events are those kept. Refusals are those of the tables, then 1 if the result would be longer than a book may be, then 19; a room of `BOOK_BYTES` is never too small.
-pub fn mend<'a>(book: &'a [u8], room: &'a mut [u8]) -> (Answer, Mended<'a>) {
+pub fn mend<'a>(book: &'a [u8], room: &'a mut [u8]) -> Result<(Answer, Mended<'a>), Refused> {
     let mut answer = [0; 4];
     let mut mended = [0; 3];
     unsafe {
@@ -471,18 +601,17 @@ pub fn mend<'a>(book: &'a [u8], room: &'a mut [u8]) -> (Answer, Mended<'a>) {
             &mut mended,
         )
     };
-    let answer = answered(answer);
+    let answer = answered(answer)?;
     let [which, dropped, added] = mended;
     let came = match which {
         1 => Mended::Own(book),
-        2 => Mended::Written {
+        _ => Mended::Written {
             book: &room[..answer.count as usize],
             dropped,
             added,
         },
-        _ => Mended::Refused,
     };
-    (answer, came)
+    Ok((answer, came))
 }
 
 fn totals_numbers(totals: &Totals) -> [u64; 6] {
@@ -496,9 +625,9 @@ fn totals_numbers(totals: &Totals) -> [u64; 6] {
     ]
 }
 
-/// Adds a book to the totals of a term. It is read to its first refusal, and what its accepted opening comes to is added. The answer is 0 if the book is accepted whole, else the
-/// number of its refusal; or 23 if 1,000 books were added already, and the totals stay as they were. A total that 1,000 books cannot have, over 16,000, counts as 16,000.
-pub fn add(book: &[u8], totals: &mut Totals) -> u64 {
+/// Adds a book to the totals of a term. It is read to its first refusal, and what its accepted opening comes to is added. The answer is the refusal of the book, if it is not accepted
+/// whole; or 23 if 1,000 books were added already, and the totals stay as they were. A total that 1,000 books cannot have, over 16,000, counts as 16,000.
+pub fn add(book: &[u8], totals: &mut Totals) -> Result<(), Refusal> {
     let mut numbers = totals_numbers(totals);
     let refusal = unsafe { archive::saga_add(book.as_ptr(), book.len(), &mut numbers) };
     let [books, refused, begun, committed, backed_out, open] = numbers;
@@ -510,7 +639,7 @@ pub fn add(book: &[u8], totals: &mut Totals) -> u64 {
         backed_out,
         open,
     };
-    refusal
+    unless_refused(refusal)
 }
 
 /// The share backed out of those begun, in lowest terms; 0 of 1 if none were begun.
@@ -523,7 +652,7 @@ pub fn share(totals: &Totals) -> Share {
 
 /// Puts the fields of a book that is accepted whole at the front of the room. There are never more fields than the book has bytes.
 /// Refusals are those of `read` to the first refusal, then 19.
-pub fn unpack(book: &[u8], room: &mut [u32]) -> Answer {
+pub fn unpack(book: &[u8], room: &mut [u32]) -> Result<Answer, Refused> {
     let mut answer = [0; 4];
     unsafe {
         archive::saga_unpack(
@@ -540,7 +669,7 @@ pub fn unpack(book: &[u8], room: &mut [u32]) -> Answer {
 /// Puts the bytes of fields that are a book at the front of the room. There are never more than three for a field. Refusals are those of
 /// `read` to the first refusal, with the place counted in fields, then 19. A field above the ceiling of the edition is refused by 3 at its own place, and counts as three
 /// bytes where 1 is judged. It keeps a book of 64 KiB on the stack.
-pub fn write(fields: &[u32], room: &mut [u8]) -> Answer {
+pub fn write(fields: &[u32], room: &mut [u8]) -> Result<Answer, Refused> {
     let mut answer = [0; 4];
     unsafe {
         archive::saga_write(
@@ -583,17 +712,16 @@ fn phase_of(number: u64) -> Option<Phase> {
     }
 }
 
-/// The number of a refusal, unless it is 0.
-fn unless_refused(number: u64) -> Result<(), u64> {
-    match number {
-        0 => Ok(()),
-        _ => Err(number),
+fn unless_refused(number: u64) -> Result<(), Refusal> {
+    match refusal_of(number) {
+        None => Ok(()),
+        Some(refusal) => Err(refusal),
     }
 }
 
 impl Desk {
     /// Opens a desk on a book that is read in one of the ways; the answer is that of `read`.
-    pub fn open(book: &[u8], way: Way) -> (Desk, Answer) {
+    pub fn open(book: &[u8], way: Way) -> (Desk, Result<Answer, Refused>) {
         let mut desk = Desk {
             counts: [0; 9],
             sheet: [0; 195],
@@ -620,8 +748,8 @@ impl Desk {
         (desk, answered(answer))
     }
 
-    /// Whether an event would be accepted behind all others; if not, the number of its refusal.
-    pub fn ask(&self, event: Event) -> Result<(), u64> {
+    /// Whether an event would be accepted behind all others; if not, its refusal.
+    pub fn ask(&self, event: Event) -> Result<(), Refusal> {
         let [code, a, b, c, d] = event.numbers();
         unless_refused(unsafe {
             archive::saga_lent_ask(
@@ -638,8 +766,8 @@ impl Desk {
         })
     }
 
-    /// Takes an event behind all others, if it is accepted; if not, the number of its refusal. A refused event is counted and changes nothing else.
-    pub fn take(&mut self, event: Event) -> Result<(), u64> {
+    /// Takes an event behind all others, if it is accepted; if not, its refusal. A refused event is counted and changes nothing else.
+    pub fn take(&mut self, event: Event) -> Result<(), Refusal> {
         let [code, a, b, c, d] = event.numbers();
         unless_refused(unsafe {
             archive::saga_lent_take(
@@ -702,7 +830,16 @@ impl Desk {
         unsafe {
             archive::saga_lent_tally(&self.transactions, &self.steps, &self.counts, &mut tally)
         };
-        let [sagas, transactions, operations, accepted, refused, left, active, lowest] = tally;
+        let [
+            sagas,
+            transactions,
+            operations,
+            accepted,
+            refused,
+            left,
+            active,
+            lowest,
+        ] = tally;
         Tally {
             sagas,
             transactions,
@@ -730,7 +867,7 @@ impl Desk {
     }
 
     /// The order to replay in, as `replay` tells it of a book.
-    pub fn replay(&self, list: &mut [u16]) -> Answer {
+    pub fn replay(&self, list: &mut [u16]) -> Result<Answer, Refused> {
         let mut answer = [0; 4];
         unsafe {
             archive::saga_lent_replay(
@@ -746,7 +883,7 @@ impl Desk {
 
     /// Puts one line of the listing at the front of the room, counted from 0: the first line, then those of transactions, operations and sagas; the
     /// lines of refused events are not among them. The count is 0 where there is no such line; 19 is the only refusal.
-    pub fn line(&self, line: u64, room: &mut [u8]) -> Answer {
+    pub fn line(&self, line: u64, room: &mut [u8]) -> Result<Answer, Refused> {
         let mut answer = [0; 4];
         unsafe {
             archive::saga_lent_line(
