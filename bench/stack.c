@@ -1,17 +1,16 @@
-/* How deep the stack goes when one event is judged, beyond the numbers that the caller lends: the call runs on a stack of its own that was
-   painted before, and the paint that is left tells. For x86-64. */
+/* How deep the stack goes when one event is judged, beyond the numbers that the caller lends: by paint
+   (painted.h). */
 #include <stddef.h>
 #include <stdint.h>
 #include <string.h>
+
+#include "painted.h"
 
 int printf(const char *words, ...);
 
 /* The judge as a till program calls it (crates/probe): the sheet and the state are lent. */
 uint64_t probe_take(const uint32_t sheet[195], uint32_t transactions[64], uint32_t ops[256], uint64_t n, uint64_t code, uint64_t a,
                     uint64_t b, uint64_t c);
-
-#define SIZE (256 * 1024)
-#define PAINT 0xA5
 
 /* What numbers of a sheet and of a state stand for (crates/sheet, rules and cells). */
 enum { PLAIN = 1, SAGA = 2, STEP = 3, UNDO = 4, OBJECTS = 192, OWNED = 194 };
@@ -24,28 +23,11 @@ static uint32_t sort_of(uint32_t sort, uint32_t first, uint32_t steps, uint32_t 
 /* An active write of t on an object. */
 static uint32_t write_of(uint32_t t, uint32_t object) { return object + 32 + 64 + 256 * t; }
 
-static uint8_t area[SIZE] __attribute__((aligned(4096)));
 static uint32_t sheet[195], transactions[64], ops[256];
 static uint64_t event[4], count, answer;
 
 static void __attribute__((noinline)) judged(void) {
   answer = probe_take(sheet, transactions, ops, count, event[0], event[1], event[2], event[3]);
-}
-
-/* Goes over to the painted stack, calls, and comes back. */
-static size_t depth_of(void (*call)(void)) {
-  uint8_t *top = area + SIZE - 64;
-  size_t low = 0;
-  for (size_t i = 0; i < SIZE; i++)
-    ((volatile uint8_t *)area)[i] = PAINT;
-  __asm__ volatile("movq %%rsp, %%rbx\n\tmovq %0, %%rsp\n\tcall *%1\n\tmovq %%rbx, %%rsp\n\t"
-                   :
-                   : "r"(top), "r"(call)
-                   : "rbx", "rax", "rcx", "rdx", "rsi", "rdi", "r8", "r9", "r10", "r11", "memory", "cc", "xmm0", "xmm1", "xmm2", "xmm3",
-                     "xmm4", "xmm5", "xmm6", "xmm7", "xmm8", "xmm9", "xmm10", "xmm11", "xmm12", "xmm13", "xmm14", "xmm15");
-  while (low < SIZE && ((volatile uint8_t *)area)[low] == PAINT)
-    low++;
-  return (size_t)(top - (area + low));
 }
 
 /* 64 plain transactions, all active, one object, and 256 writes of transaction 0 but for the one at `place`, which is transaction 1's. */
