@@ -6,7 +6,7 @@
    answer overlap nothing else that is passed; and no pointer is NULL, not even with a count of 0: pass the address of anything then, "" say.
 
    No function keeps anything between two calls, takes memory from the heap or writes anywhere but into what it is lent to write: a room, a list, an answer, a step, totals, a share,
-   a desk. On the stack saga_write takes some 78,000 bytes, reading and opening a desk some 30,000, asking and taking an event some 1,600; link/README.md has each as it was measured. */
+   a desk. On the stack saga_write takes some 80,000 bytes, reading and opening a desk some 33,000, asking and taking an event some 1,700; link/README.md has each as it was measured. */
 #ifndef SAGALIB_H
 #define SAGALIB_H
 
@@ -55,12 +55,12 @@ enum saga_refusal {
   SAGA_BAD_DEPENDENCY = 6,   /* a dependency that may not be declared, or is not rising */
   SAGA_BAD_CODE = 7,         /* event code not on the list of events */
   SAGA_NOT_IN_TABLES = 8,    /* transaction, object or mark not in the tables, or operation number not accepted so far */
-  SAGA_NEVER_DOES = 9,       /* that sort of transaction never does this; or delegates to itself */
-  SAGA_NOT_IDLE = 10,        /* begin of one that isn't idle */
-  SAGA_NOT_ACTIVE = 11,      /* commit, abort, operation, delegation, or commit or abort of one operation by one not active, or receiver not active */
+  SAGA_NEVER_DOES = 9,       /* that sort of transaction never does this; or delegates to itself; or a child commits one operation */
+  SAGA_NOT_IDLE = 10,        /* begin or spawn of one that isn't idle */
+  SAGA_NOT_ACTIVE = 11,      /* commit, abort, operation, delegation, spawn, or commit or abort of one operation by one not active, or receiver not active */
   SAGA_NOT_RESPONSIBLE = 12, /* delegator, or who commits or aborts one operation, not responsible */
   SAGA_SAGA_RULE = 13,       /* saga rule */
-  SAGA_DEPENDENCY_RULE = 14, /* declared dependency */
+  SAGA_DEPENDENCY_RULE = 14, /* declared dependency; or commit while a child is active, or of a child whose parent has ended */
   SAGA_DIRTY_READ = 15,      /* dirty read */
   SAGA_ON_RING = 16,         /* on a ring */
   SAGA_MUST_WAIT = 17,       /* undo must wait */
@@ -68,7 +68,7 @@ enum saga_refusal {
   SAGA_NO_ROOM = 19,         /* lent room too small */
   SAGA_ALREADY_ENDED = 20,   /* operation already ended */
   SAGA_NEVER_MOVES = 21,     /* tables that can never move */
-  SAGA_UNDO_ON_RING = 22,    /* operation or delegation that would put an active undo on a ring */
+  SAGA_UNDO_ON_RING = 22,    /* operation, delegation or commit of a child that would put an active undo on a ring */
   SAGA_TOO_MANY_BOOKS = 23   /* 1,000 books are counted already; saga_add alone */
 };
 

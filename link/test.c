@@ -744,6 +744,23 @@ static void desk_of_edition_two(void) {
   LINES(&desk, "book accepted 2\nt 0 active\nop 0 0 write 0 active\n", 2);
 }
 
+/* A clerk with a helper: the clerk waits for it, the helper keeps nothing alone, and what it did is the clerk's when it is finished. */
+static void desk_of_helpers(void) {
+  static const uint8_t book[] = {1, 0, 2, 1, 0, 1, 0};
+  struct saga_desk desk;
+  ANSWER(open_desk(&desk, book, sizeof book, SAGA_READ_ON), 0, 1, 0, 0);
+  CHECK(saga_desk_ask(&desk, SAGA_SPAWN, 1, 0, 0, 0) == SAGA_NOT_IDLE);
+  CHECK(saga_desk_ask(&desk, SAGA_SPAWN, 0, 2, 0, 0) == SAGA_NOT_IN_TABLES);
+  CHECK(saga_desk_take(&desk, SAGA_SPAWN, 0, 1, 0, 0) == SAGA_ACCEPTED);
+  CHECK(saga_desk_take(&desk, SAGA_OPERATION, 1, 0, 1, 0) == SAGA_ACCEPTED);
+  CHECK(saga_desk_ask(&desk, SAGA_COMMIT, 0, 0, 0, 0) == SAGA_DEPENDENCY_RULE);
+  CHECK(saga_desk_ask(&desk, SAGA_COMMIT_ONE, 1, 0, 0, 0) == SAGA_NEVER_DOES);
+  CHECK(saga_desk_take(&desk, SAGA_COMMIT, 1, 0, 0, 0) == SAGA_ACCEPTED);
+  OPERATION(&desk, 0, 0, 1, 0, SAGA_ACTIVE);
+  CHECK(saga_desk_take(&desk, SAGA_COMMIT, 0, 0, 0, 0) == SAGA_ACCEPTED);
+  LINES(&desk, "book accepted 5\nt 0 committed\nt 1 committed\nop 0 0 write 0 committed\n", 5);
+}
+
 static uint64_t seed;
 
 static uint64_t random_number(void) {
@@ -858,6 +875,7 @@ int main(void) {
   desk_questions();
   desk_refuses();
   desk_of_edition_two();
+  desk_of_helpers();
   desks_of_any_numbers();
   asked_taken_and_read();
   return differences == 0 ? 0 : 1;

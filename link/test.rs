@@ -655,6 +655,24 @@ fn desk_of_edition_two() {
     );
 }
 
+/// A clerk with a helper: the clerk waits for it, the helper keeps nothing alone, and what it did is the clerk's when it is finished.
+fn desk_of_helpers() {
+    let (mut desk, read) = Desk::open(&[1, 0, 2, 1, 0, 1, 0], ON);
+    assert_eq!(read, answer(0, 1, 0, 0));
+    assert_eq!(desk.ask(Event::Spawn(1, 0)), Err(Refusal::NotIdle));
+    assert_eq!(desk.ask(Event::Spawn(0, 2)), Err(Refusal::NotInTables));
+    assert_eq!(desk.take(Event::Spawn(0, 1)), Ok(()));
+    assert_eq!(desk.take(Event::Operation(1, 0, Mark::Write, 0)), Ok(()));
+    assert_eq!(desk.ask(Event::Commit(0)), Err(Refusal::DependencyRule));
+    assert_eq!(desk.ask(Event::CommitOne(1, 0)), Err(Refusal::NeverDoes));
+    assert_eq!(desk.take(Event::Commit(1)), Ok(()));
+    assert_eq!(desk.take(Event::Commit(0)), Ok(()));
+    assert_eq!(
+        lines(&desk),
+        "book accepted 5\nt 0 committed\nt 1 committed\nop 0 0 write 0 committed\n"
+    );
+}
+
 struct Numbers(u64);
 
 impl Numbers {
@@ -789,6 +807,7 @@ fn all() {
     desk_questions();
     desk_of_a_torn_book();
     desk_of_edition_two();
+    desk_of_helpers();
     desks_of_any_numbers();
     asked_taken_and_read();
 }

@@ -1,7 +1,8 @@
 //! The saga book for Rust: safe functions over libsagalib.a.
 //!
 //! Each takes any bytes and any numbers; nothing has to be looked at first, and a refusal is an answer like any other. No function keeps
-//! anything between two calls, takes memory from the heap or writes anywhere but into what it is lent to write.
+//! anything between two calls, takes memory from the heap or writes anywhere but into what it is lent to write. On the stack `write` takes some 80,000 bytes,
+//! reading and opening a desk some 33,000, asking and taking an event some 1,700.
 //!
 //! A program that asks before it writes, which stands in `examples/first.rs` and is run by `link/run`:
 //!
@@ -22,8 +23,17 @@ pub const MOST_2: u32 = 2_097_151;
 /// The most sagas that a book has.
 pub const SAGAS: usize = 16;
 
-/// The most transactions that a book has: a list of so many numbers holds every order to replay in.
+/// The most steps that a saga has.
+pub const STEPS: usize = 16;
+
+/// The most transactions that a book has, of which a saga of n steps owns 2n: a list of so many numbers holds every order to replay in.
 pub const TRANSACTIONS: usize = 64;
+
+/// The most objects that a book has.
+pub const OBJECTS: usize = 32;
+
+/// The most dependencies that a book declares.
+pub const DEPENDENCIES: usize = 128;
 
 /// The most operations that a book has.
 pub const OPERATIONS: usize = 256;
@@ -78,17 +88,17 @@ pub enum Refusal {
     BadCode = 7,
     /// A transaction, object or mark is not in the tables, or an operation number not accepted so far.
     NotInTables = 8,
-    /// That sort of transaction never does this, or it delegates to itself.
+    /// That sort of transaction never does this, or it delegates to itself, or a child commits one operation.
     NeverDoes = 9,
-    /// It was begun before.
+    /// It was begun or spawned before.
     NotIdle = 10,
-    /// It is not active, or the receiver is not.
+    /// It is not active, or the receiver is not, or the parent of a spawn is not.
     NotActive = 11,
     /// It is not responsible for that operation.
     NotResponsible = 12,
     /// A saga rule forbids it.
     SagaRule = 13,
-    /// A declared dependency forbids it.
+    /// A declared dependency forbids it; or a child of it is active; or its parent has ended.
     DependencyRule = 14,
     /// It has a dirty read.
     DirtyRead = 15,
