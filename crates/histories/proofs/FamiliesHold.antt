@@ -92,10 +92,21 @@ module _ (tables : Tables) (c : ℕ) where
     unnamed (AbortOne t q) v n = refl
     unnamed (Spawn m d) v n = other d (spawning tables s (step tables s (Spawn m d) v) .idle)
 
+    -- who is not begun by an event is not made a child by it
+    not-made : (e : Event) → namesOf s e .transaction c ≡ false → namesOf s e .child c ≡ false
+    not-made (Begin t) n = refl
+    not-made (Commit t) n = refl
+    not-made (Abort t) n = refl
+    not-made (Invoke t o m) n = refl
+    not-made (Delegate t r q) n = refl
+    not-made (CommitOne t q) n = refl
+    not-made (AbortOne t q) n = refl
+    not-made (Spawn m d) n = n
+
     stays : (e : Event) → ends c e ≡ false → (phaseOf (next tables s e .transactions) c ≡ phaseOf (s .transactions) c) × (parentOf (next tables s e .transactions) c ≡ parentOf (s .transactions) c)
     stays e n =
         by-verdict tables s e
-        (λ v. let f = event-promises .frame tables s e in let u = unnamed e v n in (f .phases c u, f .parents c u))
+        (λ v. let f = event-promises .frame tables s e in let u = unnamed e v n in (f .phases c u, f .parents c (not-made e u)))
         (λ r v. rw (next-no tables s e r v) (refl, refl))
 
   run-stays : (ys : List Event) (s : State) → endsIn c ys ≡ false → code (phaseOf (s .transactions) c) ≡ 1
@@ -243,6 +254,7 @@ families tables es =
     record {
       parents = parents-told tables es;
       plain = kin tables es .plain;
+      clerk = clerk-is tables (reached tables es) (kin tables es);
       begun = λ t m e.
           let b = kin tables es .begun t m e in
           (begun-not (phaseOf (reached tables es .transactions) t) (b .0), begun-not (phaseOf (reached tables es .transactions) m) (b .1));

@@ -16,7 +16,7 @@ use Rattle.rules.specs.States.{parentOf, phaseOf}
 use Rattle.rules.specs.declared.Parent.the-variants.{Under}
 use Rattle.rules.specs.declared.Phase.the-variants.{Committed, Idle}
 use Rattle.rules.specs.declared.State.{State}
-use Rattle.judge.specs.Judge.{judged}
+use Rattle.judge.specs.Judge.{clerkOf, judged}
 use Rattle.histories.specs.Histories.{history, reached, told}
 
 -- "Its commit hands its active operations to the parent instead of ending them": they are m's, and nothing else moved
@@ -48,6 +48,8 @@ pub record Families (tables : Tables) (es : List Event) : Type 0 where
   pub parents : (t : ℕ) → t < mostTransactions → parentOf (reached tables es .transactions) t ≡ told (history tables es) .parent t
   -- "sagas can't be parents or children"
   pub plain : (t m : ℕ) → parentOf (reached tables es .transactions) t ≡ Under m → (isPlain (sortOf tables t) ≡ true) × (isPlain (sortOf tables m) ≡ true)
+  -- and so whose helper the judge takes it for is whose child it is
+  pub clerk : (t : ℕ) → clerkOf tables (reached tables es .transactions) t ≡ parentOf (reached tables es .transactions) t
   -- a child and its parent have both begun
   pub begun : (t m : ℕ) → parentOf (reached tables es .transactions) t ≡ Under m
       → (phaseOf (reached tables es .transactions) t ≢ Idle) × (phaseOf (reached tables es .transactions) m ≢ Idle)

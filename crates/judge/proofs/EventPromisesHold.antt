@@ -54,7 +54,7 @@ made-left op ops q n =
     (λ l. rw (made-full op ops l))
 
 -- what t is at work on is rewritten with its end
-ends-kept : (s : State) (t : ℕ) (p : Phase) (how : Operation → Operation) → Frame (record { transaction = one t; operation = allOf s t; makes = false }) s
+ends-kept : (s : State) (t : ℕ) (p : Phase) (how : Operation → Operation) → Frame (record { transaction = one t; child = nothing; operation = allOf s t; makes = false }) s
     (record { transactions = entered p t (s .transactions); ops = rewritten (allHeldBy t) how (s .ops) })
 unfolding rewritten
 ends-kept s t p how =
@@ -66,7 +66,7 @@ ends-kept s t p how =
     }
 
 -- one operation is
-one-kept : (s : State) (q : ℕ) (how : Operation → Operation) → Frame (record { transaction = nothing; operation = one q; makes = false }) s
+one-kept : (s : State) (q : ℕ) (how : Operation → Operation) → Frame (record { transaction = nothing; child = nothing; operation = one q; makes = false }) s
     (record { transactions = s .transactions; ops = rewritten (onlyActive q) how (s .ops) })
 unfolding rewritten
 one-kept s q how = record { phases = λ u n. refl; parents = λ u n. refl; operations = only-left how q (s .ops); count = λ z. refl }

@@ -73,9 +73,10 @@ pub record Does (tables : Tables) (s : State) : Type 0 where
 
 -- ---- what an event does not name stays
 
--- what an event names: a transaction that it begins or ends, operations that it gives or ends, or a new operation that it makes
+-- what an event names: a transaction that it begins or ends, one that it makes a child, operations that it gives or ends, or a new operation that it makes
 pub record Names : Type 0 where
   pub transaction : ℕ → Bool
+  pub child : ℕ → Bool
   pub operation : ℕ → Bool
   pub makes : Bool
 
@@ -90,19 +91,20 @@ abbrev pub allOf : State → ℕ → ℕ → Bool
 allOf s t q = eqb (opAt (s .ops) q .responsible) t
 
 abbrev pub namesOf : State → Event → Names
-namesOf s (Begin t) = record { transaction = one t; operation = nothing; makes = false }
-namesOf s (Commit t) = record { transaction = one t; operation = allOf s t; makes = false }
-namesOf s (Abort t) = record { transaction = one t; operation = allOf s t; makes = false }
-namesOf s (Invoke t o m) = record { transaction = nothing; operation = one (s .ops .count); makes = true }
-namesOf s (Delegate t r q) = record { transaction = nothing; operation = one q; makes = false }
-namesOf s (CommitOne t q) = record { transaction = nothing; operation = one q; makes = false }
-namesOf s (AbortOne t q) = record { transaction = nothing; operation = one q; makes = false }
-namesOf s (Spawn m c) = record { transaction = one c; operation = nothing; makes = false }
+namesOf s (Begin t) = record { transaction = one t; child = nothing; operation = nothing; makes = false }
+namesOf s (Commit t) = record { transaction = one t; child = nothing; operation = allOf s t; makes = false }
+namesOf s (Abort t) = record { transaction = one t; child = nothing; operation = allOf s t; makes = false }
+namesOf s (Invoke t o m) = record { transaction = nothing; child = nothing; operation = one (s .ops .count); makes = true }
+namesOf s (Delegate t r q) = record { transaction = nothing; child = nothing; operation = one q; makes = false }
+namesOf s (CommitOne t q) = record { transaction = nothing; child = nothing; operation = one q; makes = false }
+namesOf s (AbortOne t q) = record { transaction = nothing; child = nothing; operation = one q; makes = false }
+namesOf s (Spawn m c) = record { transaction = one c; child = one c; operation = nothing; makes = false }
 
 -- from one state to the next all else stays
 pub record Frame (n : Names) (s next : State) : Type 0 where
   pub phases : (t : ℕ) → n .transaction t ≡ false → phaseOf (next .transactions) t ≡ phaseOf (s .transactions) t
-  pub parents : (t : ℕ) → n .transaction t ≡ false → parentOf (next .transactions) t ≡ parentOf (s .transactions) t
+  -- whose child a transaction is stays so: only a spawn says it, of the one that it begins
+  pub parents : (t : ℕ) → n .child t ≡ false → parentOf (next .transactions) t ≡ parentOf (s .transactions) t
   pub operations : (q : ℕ) → n .operation q ≡ false → opAt (next .ops) q ≡ opAt (s .ops) q
   pub count : n .makes ≡ false → next .ops .count ≡ s .ops .count
 

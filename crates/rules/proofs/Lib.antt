@@ -5,3 +5,4 @@ pub mod LentLaws
 pub mod RuleLaws
 pub mod LeavesAloneHolds
 pub mod OwnChildrenHold
+pub mod DeclaredBarsHold

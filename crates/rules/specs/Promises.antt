@@ -4,10 +4,13 @@ use mathlib.Core.Path.{_≡_}
 use mathlib.Core.Bool.{Bool, true, false}
 use mathlib.Core.Logic.{_↔_, _≢_, _⊎_}
 use mathlib.Core.List.{List, [], _∷_, map}
-use Rattle.tables.specs.Dependencies.{kindOf}
+use Rattle.tables.specs.Counts.{dependencyCount}
+use Rattle.tables.specs.Dependencies.{dependencyAt, kindOf}
+use Rattle.tables.specs.declared.Kind.{Kind}
 use Rattle.tables.specs.declared.Sort.the-variants.{Plain, Saga, Step, Undo}
+use Rattle.tables.specs.declared.Tables.{Tables}
 use Rattle.terms.specs.Limits.{mostTransactions}
-use Rattle.rules.specs.Rules.{abortBarred, beginBarred, beginBars, childActive, commitBarred, commitBars}
+use Rattle.rules.specs.Rules.{abortBarred, beginBarred, beginBars, childActive, commitBarred, commitBars, declaredBars}
 use Rattle.rules.specs.States.{own, parentOf, phaseOf}
 use Rattle.rules.specs.declared.Parent.the-variants.{Under}
 use Rattle.rules.specs.declared.Phase.{Phase}
@@ -54,6 +57,18 @@ pub record KindTable : Type 0 where
   pub begins : map (λ (k : ℕ). byPhase (beginBars (kindOf k))) (1 ∷ 2 ∷ 3 ∷ 4 ∷ 5 ∷ 6 ∷ 7 ∷ [])
       ≡ (false ∷ false ∷ false ∷ false ∷ []) ∷ (false ∷ false ∷ false ∷ false ∷ []) ∷ (false ∷ false ∷ false ∷ false ∷ [])
       ∷ (true ∷ false ∷ false ∷ false ∷ []) ∷ (true ∷ true ∷ false ∷ false ∷ []) ∷ (true ∷ true ∷ false ∷ true ∷ []) ∷ (true ∷ true ∷ true ∷ false ∷ []) ∷ []
+
+-- some declared dependency of t's bars it, by its own kind and by the phase of its own base
+pub record Barred (bars : Kind → Phase → Bool) (tables : Tables) (ts : List Transaction) (t : ℕ) : Type 0 where
+  pub entry : ℕ
+  pub declared : entry < dependencyCount tables
+  pub dependent : dependencyAt tables entry .dependent ≡ t
+  pub bars-it : bars (dependencyAt tables entry .kind) (phaseOf ts (dependencyAt tables entry .base)) ≡ true
+
+-- and nothing else does
+pub record DeclaredBars : Type 0 where
+  pub begins : (tables : Tables) (ts : List Transaction) (t : ℕ) → (declaredBars true tables ts t ≡ true) ↔ Barred beginBars tables ts t
+  pub commits : (tables : Tables) (ts : List Transaction) (t : ℕ) → (declaredBars false tables ts t ≡ true) ↔ Barred commitBars tables ts t
 
 -- ---- helpers
 
