@@ -1,0 +1,27 @@
+-- The axioms of the papers, proved.
+pub mod Runs
+pub mod Phases
+pub mod Deeds
+pub mod Invoking
+pub mod Whose
+pub mod TiesTold
+pub mod ToldHolds
+pub mod Places
+pub mod FundamentalHolds
+pub mod SortsHold
+pub mod DependingHolds
+pub mod DelegatingHolds
+pub mod EndingsHold
+pub mod ObjectsHold
+pub mod StuckNever
+pub mod OrdersTold
+pub mod RingsTold
+pub mod AcceptingHolds
+pub mod Stages
+pub mod SagaStages
+pub mod SagaRunsHold
+pub mod StructureHolds
+pub mod NestingHolds
+pub mod CompletedHolds
+pub mod ByTheLetterHolds
+pub mod ActaHolds
