@@ -1,12 +1,12 @@
 -- Every history can be completed (★13, second half): the closing steps of the sagas, and then an abort of each plain one in progress.
-use Prim.Native.Nat.{ℕ, zero, suc, _+_, _*_, _≤_, _<_}
+use Prim.Native.Nat.{ℕ, zero, suc, _+_, _-_, _*_, _≤_, _<_}
 use native.Mathlib.Omega.{arith}
 use mathlib.Core.Path.{_≡_, refl, sym, ap, subst, subst⁻¹, _∙_}
 use mathlib.Core.Bool.{Bool, true, false, not, _&&_, _||_}
 use mathlib.Core.Logic.{_≢_, _⊎_, inl, inr, ⊎-elim}
 use mathlib.Core.List.{List, [], _∷_, _++_, append-assoc, append-nil}
 use lib.Dec.{eqb, ltb}
-use lib.ListN.{length-take}
+use lib.ListN.{length, length-append, length-take, take}
 use borrow.Author.Tests.{eqb-true, ltb-true}
 use Rattle.laws.specs.Index.{highest}
 use Rattle.laws.proofs.Bools.{bool-cases, clash, and-off, and-rest, is-not, not-off, off-not, on-and, on-not, or-cases, or-left, or-right}
@@ -16,10 +16,10 @@ use Rattle.terms.specs.Limits.{mostTransactions}
 use Rattle.terms.specs.declared.Event.{Event}
 use Rattle.terms.specs.declared.Event.the-variants.{Abort}
 use Rattle.tables.specs.Accepted.{Well}
-use Rattle.tables.specs.Sorts.{firstOf, isSaga, isUndo, stepsOf}
+use Rattle.tables.specs.Sorts.{firstOf, isKnown, isSaga, isUndo, numberOfAll, ownedBy, sagasOf, sortOf, stepsOf}
 use Rattle.tables.specs.declared.Sort.{Sort}
 use Rattle.tables.specs.declared.Tables.{Tables}
-use Rattle.tables.proofs.SagaLaws.{by-sort, listed-saga}
+use Rattle.tables.proofs.SagaLaws.{by-sort, listed-saga, owned-apart}
 use Rattle.rules.specs.Rules.{undone}
 use Rattle.rules.specs.States.{emptyState, isAborted, isActive, isCommitted, isIdle, own, phaseOf}
 use Rattle.rules.specs.declared.Phase.{Phase}
@@ -29,7 +29,7 @@ use Rattle.rules.proofs.PhaseLaws.{aborted-is, active-is, code, committed-is, i
 use Rattle.histories.specs.Histories.{history, reached, run}
 use Rattle.histories.proofs.RunLaws.{run-append, taken-append}
 use Rattle.closing.specs.Closing.{activeStep, isListed, outstanding, ownOf, settled, settledBy}
-use Rattle.closing.specs.Settling.{closeAll}
+use Rattle.closing.specs.Settling.{closeAll, owedBelow}
 use Rattle.closing.proofs.ClosingSettlesHolds.{closing-settles}
 use Rattle.closing.proofs.Demand3Holds.{demand3}
 use Rattle.closing.proofs.SettledRunsHold.{settled-runs}
@@ -37,6 +37,7 @@ use Rattle.acta.specs.Completing.{Complete, Completed}
 use Rattle.acta.specs.SagaWords.{ownWord}
 use Rattle.acta.specs.Told.{IsTold}
 use Rattle.acta.specs.Words.{aborted, aborts, began, begins, committed, commits, ended, inProgress, occurs}
+use Rattle.acta.proofs.ClosingBegins.{closing-begins}
 use Rattle.acta.proofs.EndingsHold.{aborted-now}
 use Rattle.acta.proofs.Places.{occurs-append}
 use Rattle.acta.proofs.Runs.{is-history}
@@ -44,7 +45,7 @@ use Rattle.acta.proofs.SagaRunsHold.{staged}
 use Rattle.acta.proofs.SagaStages.{Stage, at-rest, closed, failed, in-step, in-undo, not-begun, torn, undoing}
 use Rattle.acta.proofs.Stages.{Form, no-undo-active, none-active}
 use Rattle.acta.proofs.RingsTold.{going-low}
-use Rattle.acta.proofs.StuckNever.{never-stuck}
+use Rattle.acta.proofs.StuckNever.{begun-known, never-stuck}
 use Rattle.acta.proofs.ToldHolds.{is-told}
 
 -- ---- a settled saga
@@ -142,6 +143,21 @@ settled-is : (tables : Tables) (s : State) (i : ℕ) → settled tables s i ≡ 
 unfolding settled
 settled-is tables s i e = bool-cases (isListed tables i) (λ b. rw b at e) (λ b. clash (rw b at e) refl)
 
+-- ---- how many events
+
+owned-front : (ns : List ℕ) (j : ℕ) → ownedBy (take j ns) ≤ ownedBy ns
+unfolding ownedBy
+owned-front [] zero = omega arith
+owned-front [] (suc j) = omega arith
+owned-front (n ∷ ns) zero = omega arith
+owned-front (n ∷ ns) (suc j) = omega (arith, owned-front ns j)
+
+-- the sagas below k owe no more than they own
+owed-low : (tables : Tables) → Well tables → (es : List Event) (k : ℕ) → k ≤ tables .sagas → owedBelow tables (reached tables es) k ≤ firstOf tables k
+unfolding owedBelow
+owed-low tables well es zero l = omega arith
+owed-low tables well es (suc k) l = omega (arith, owed-low tables well es k (omega arith), demand3 tables well k l .bounded es, owned-apart tables k (suc k) (omega arith))
+
 module _ (tables : Tables) (well : Well tables) (es : List Event) where
   -- ---- first the closing steps of all sagas
 
@@ -174,6 +190,9 @@ module _ (tables : Tables) (well : Well tables) (es : List Event) where
     taken-all : history tables (w₀ ++ more) ≡ w₀ ++ more
     none-begun : (t : ℕ) → began (w₀ ++ more) t ≡ began w₀ t
     clear : (t : ℕ) → t < k → inProgress (w₀ ++ more) t ≡ false
+    -- each is that of a plain one
+    few : length more ≤ k - ownedBy (sagasOf tables)
+    at-most : length more ≤ tables .plain
 
   module _ (more : List Event) (all : history tables (w₀ ++ more) ≡ w₀ ++ more) (begun : (t : ℕ) → began (w₀ ++ more) t ≡ began w₀ t) where
     abbrev w : List Event
@@ -216,6 +235,17 @@ module _ (tables : Tables) (well : Well tables) (es : List Event) where
         let stage = stage-now i i-listed in
         none-going f n (own (reached tables w .transactions) f) (ownWord f n w) (ends i i-listed) stage k r (active-is (phaseOf (reached tables w .transactions) (f + k)) (told .active (f + k) ∙ a))
 
+    -- whoever is in progress is plain
+    is-plain : (t : ℕ) → inProgress w t ≡ true → (ownedBy (sagasOf tables) ≤ t) × (t < numberOfAll tables)
+    is-plain t a =
+        by-sort tables t (λ (x : Sort). isKnown x ≡ true → (ownedBy (sagasOf tables) ≤ t) × (t < numberOfAll tables))
+        (λ i l e k. absurd (own-quiet i 0 l (omega arith) (subst (λ (z : ℕ). inProgress w z ≡ true) (e ∙ omega arith) a)))
+        (λ i j l r e k. absurd (own-quiet i j (omega arith) (omega arith) (subst (λ (z : ℕ). inProgress w z ≡ true) e a)))
+        (λ i j l r e k. absurd (own-quiet i (stepsOf tables i + j) (omega arith) (omega arith) (subst (λ (z : ℕ). inProgress w z ≡ true) e a)))
+        (λ l r k. (l, r))
+        (λ l k. clash k refl)
+        (begun-known tables w t (subst⁻¹ (λ (x : List Event). began x t ≡ true) all (on-and (began w t) (not (ended w t)) a .0)))
+
     -- whoever is in progress can abort
     can-abort : (t : ℕ) → inProgress w t ≡ true → history tables (w ++ (Abort t ∷ [])) ≡ w ++ (Abort t ∷ [])
     can-abort t a =
@@ -234,6 +264,8 @@ module _ (tables : Tables) (well : Well tables) (es : List Event) where
         taken-all = subst⁻¹ (λ (x : List Event). history tables x ≡ x) (append-nil w₀) all-w₀;
         none-begun = λ t. ap (λ (x : List Event). began x t) (append-nil w₀);
         clear = λ t l. absurd (omega arith);
+        few = omega arith;
+        at-most = omega arith;
       }
   cleared (suc k) = go (cleared k)
     where
@@ -243,6 +275,7 @@ module _ (tables : Tables) (well : Well tables) (es : List Event) where
           bool-cases (inProgress x k)
           (λ a.
           let joined = append-assoc w₀ (c .more) (Abort k ∷ []) in
+          let one-longer : length (c .more ++ (Abort k ∷ [])) ≡ length (c .more) + 1 = length-append (c .more) (Abort k ∷ []) in
           record {
             more = c .more ++ (Abort k ∷ []);
             taken-all = subst (λ (y : List Event). history tables y ≡ y) joined (can-abort (c .more) (c .taken-all) (c .none-begun) k a);
@@ -252,6 +285,8 @@ module _ (tables : Tables) (well : Well tables) (es : List Event) where
                 ∙ same-or t k
                 (λ e. subst⁻¹ (λ (z : ℕ). inProgress (x ++ (Abort k ∷ [])) z ≡ false) e (just-ended x k))
                 (λ n. still-ended x k t (c .clear t (omega (arith, l, n))));
+            few = let p = is-plain (c .more) (c .taken-all) (c .none-begun) k a in omega (arith, one-longer, c .few, p .0);
+            at-most = let p = is-plain (c .more) (c .taken-all) (c .none-begun) k a in omega (arith, one-longer, c .few, p .0, p .1);
           })
           (λ a.
           record {
@@ -259,10 +294,12 @@ module _ (tables : Tables) (well : Well tables) (es : List Event) where
             taken-all = c .taken-all;
             none-begun = c .none-begun;
             clear = λ t l. same-or t k (λ e. subst⁻¹ (λ (z : ℕ). inProgress x z ≡ false) e a) (λ n. c .clear t (omega (arith, l, n)));
+            few = omega (arith, c .few);
+            at-most = c .at-most;
           })
 
   pub completed : Completed tables (history tables es)
-  completed = record { rest = closing ++ c .more; accepted = subst (λ (y : List Event). history tables y ≡ y) joined (c .taken-all); complete = subst (Complete tables) joined whole-end }
+  completed = record { rest = closing ++ c .more; accepted = subst (λ (y : List Event). history tables y ≡ y) joined (c .taken-all); complete = subst (Complete tables) joined whole-end; few = in-all; begins-none = nothing-new }
     where
       c : Clear mostTransactions
       c = cleared mostTransactions
@@ -276,6 +313,26 @@ module _ (tables : Tables) (well : Well tables) (es : List Event) where
       low : (t : ℕ) → inProgress (w₀ ++ c .more) t ≡ true → t < mostTransactions
       low t a =
           going-low tables well (w₀ ++ c .more) t (subst⁻¹ (λ (x : List Event). inProgress x t ≡ true) (c .taken-all) a)
+
+      in-all : length (closing ++ c .more) ≤ numberOfAll tables
+      in-all =
+          omega (
+            arith,
+            length-append closing (c .more),
+            closing-settles tables well es .sum,
+            owed-low tables well es (tables .sagas) (omega arith),
+            owned-front (sagasOf tables) (tables .sagas),
+            c .at-most,
+          )
+
+      nothing-new : (t : ℕ) → isUndo (sortOf tables t) ≡ false → began (history tables es ++ (closing ++ c .more)) t ≡ began (history tables es) t
+      nothing-new t n =
+          ap (λ (y : List Event). began y t) (sym joined) ∙ c .none-begun t ∙ occurs-append (begins t) (history tables es) closing
+          ∙ or-none (began (history tables es) t) (began closing t) (closing-begins tables well t n (reached tables es) (tables .sagas) (omega arith))
+        where
+          or-none : (a b : Bool) → b ≡ false → (a || b) ≡ a
+          or-none true b q = refl
+          or-none false b q = q
 
       whole-end : Complete tables (w₀ ++ c .more)
       whole-end =

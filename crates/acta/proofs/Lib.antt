@@ -20,8 +20,17 @@ pub mod AcceptingHolds
 pub mod Stages
 pub mod SagaStages
 pub mod SagaRunsHold
+pub mod SagaLemmasHold
 pub mod StructureHolds
 pub mod NestingHolds
+pub mod Losses
+pub mod ClosingBegins
 pub mod CompletedHolds
 pub mod ByTheLetterHolds
+pub mod UndosHold
+pub mod FrameHolds
+pub mod TransitiveHolds
+pub mod InTurnHolds
+pub mod AsIfHolds
+pub mod WordsAttainedHolds
 pub mod ActaHolds

@@ -32,7 +32,7 @@ module _ (tables : Tables) (well : Well tables) (es : List Event) where
   h = history tables es
 
   -- a child has begun
-  begun : (u : List Event) → history tables u ≡ u → (c m : ℕ) → parent u c ≡ Under m → began u c ≡ true
+  pub begun : (u : List Event) → history tables u ≡ u → (c m : ℕ) → parent u c ≡ Under m → began u c ≡ true
   begun u all c m p =
       let told = subst (IsTold tables u) all (is-told tables u well) in
       bool-cases (began u c) (λ b. b)

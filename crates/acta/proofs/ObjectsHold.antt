@@ -2,11 +2,12 @@
 use Prim.Native.Nat.{ℕ, _<_}
 use native.Mathlib.Omega.{arith}
 use mathlib.Core.Path.{_≡_, refl, sym, ap, subst, _∙_}
-use mathlib.Core.Bool.{true, false, not, _&&_, _||_}
-use mathlib.Core.Logic.{_⊎_, ⊎-elim}
+use mathlib.Core.Bool.{Bool, true, false, cond, not, _&&_, _||_}
+use mathlib.Core.Logic.{_≢_, _⊎_, ⊎-elim}
 use mathlib.Core.List.{List, [], _∷_, _++_, append-assoc}
 use lib.Dec.{eqb, ltb}
-use Rattle.laws.proofs.Bools.{and-on, bool-cases, clash, or-cases, or-left}
+use borrow.Author.Tests.{ne-eqb}
+use Rattle.laws.proofs.Bools.{and-off, and-on, bool-cases, clash, or-cases, or-left}
 use Rattle.terms.specs.Events.{isWrite}
 use Rattle.terms.specs.declared.Event.{Event}
 use Rattle.terms.specs.declared.Event.the-variants.{Commit, CommitOne, Operation as Invoke}
@@ -29,7 +30,7 @@ use Rattle.replay.proofs.SerializabilityHolds.{serializability-holds}
 use Rattle.acta.specs.Delegating.{works}
 use Rattle.acta.specs.Objects.{ConflictSerializable, OffRings, Recoverable}
 use Rattle.acta.specs.Told.{IsTold}
-use Rattle.acta.specs.Words.{Happens, KeptConflict, Tied, dropped, fate, invoked, kept, mark, object, parent, responsible}
+use Rattle.acta.specs.Words.{Happens, KeptConflict, Tied, dropped, fate, invoked, kept, mark, object, parent, responsible, runs}
 use Rattle.acta.proofs.Deeds.{account-append, made-on, made-up, told-more}
 use Rattle.acta.proofs.DelegatingHolds.{delegation}
 use Rattle.acta.proofs.EndingsHold.{endings}
@@ -102,6 +103,8 @@ module _ (tables : Tables) (well : Well tables) (es : List Event) where
   recoverable =
       record {
         commit = kept-reads;
+        writer-first = λ u t at n p q w a b mine there other.
+            sym (ap isCommittedOp (endings tables well es .commit u t at n p ∙ ap (λ (x : Bool). cond x Committed (fate u p)) (others u t p other))) ∙ kept-reads u t at n p q w a b mine there;
         for-good = λ u t at n p q w a b mine there. for-good u t at p (first-in u p q w) (kept-reads u t at n p q w a b mine there);
         keeps-one = λ u t q at p w a b.
             let told = told-at tables well es u (CommitOne t q) at in
@@ -111,6 +114,10 @@ module _ (tables : Tables) (well : Well tables) (es : List Event) where
             (may-keep u t q at .clean (ap isWrite (told .marks q r) ∙ b) p (ap isWrite (told .marks p l) ∙ a) (told .ties p q .1 w));
       }
     where
+      -- what another is responsible for is none of those that t is at work on
+      others : (u : List Event) (t p : ℕ) → responsible u p ≢ t → works u t p ≡ false
+      others u t p n = and-off (runs u p) (eqb (responsible u p) t) (λ r. ne-eqb (responsible u p) t n)
+
       -- the earlier of two that are tied is in the list
       first-in : (u : List Event) (p q : ℕ) → Tied u p q → p < invoked u
       first-in u p q w =

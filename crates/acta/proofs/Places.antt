@@ -1,7 +1,9 @@
 -- Facts at a place of the history: what stands before an event is a history, of which the words tell, and in which the event was accepted.
 use mathlib.Core.Path.{_≡_, refl, sym, ap, subst, subst⁻¹, _∙_}
 use mathlib.Core.Bool.{Bool, true, false, _||_}
-use mathlib.Core.Logic.{⊎-elim}
+use Prim.Native.Nat.{ℕ}
+use native.Mathlib.Omega.{arith}
+use mathlib.Core.Logic.{_⊎_, inl, inr, ⊎-elim}
 use mathlib.Core.List.{List, [], _∷_, _++_, append-assoc, append-nil}
 use Rattle.laws.proofs.Bools.{clash, or-cases}
 use Rattle.terms.specs.declared.Event.{Event}
@@ -33,6 +35,28 @@ module _ (f : Event → Bool) where
       (λ x. ([], e, v, refl, x))
       (λ x. let w = occurs-where v x in (e ∷ w .0, w .1, w .2, ap (λ (l : List Event). e ∷ l) (w .3), w .4))
       (or-cases (f e) (occurs f v) h)
+
+-- ---- two ways to cut one list
+
+pub none-left : (x : Event) (xs : List Event) → [] ≡ x ∷ xs → ⊥
+none-left x xs q = let z : _≡_ {A = ℕ} 0 1 = cc in omega arith
+
+pub heads : (x y : Event) (xs ys : List Event) → x ∷ xs ≡ y ∷ ys → (x ≡ y) × (xs ≡ ys)
+heads x y xs ys q = (cc, cc)
+
+-- the first cut comes no later than the second, or no earlier
+abbrev pub Cuts : List Event → List Event → List Event → List Event → Type 0
+Cuts a b c d = ((m : List Event) × (c ≡ a ++ m) × (b ≡ m ++ d)) ⊎ ((m : List Event) × (a ≡ c ++ m) × (d ≡ m ++ b))
+
+pub cuts : (a b c d : List Event) → a ++ b ≡ c ++ d → Cuts a b c d
+cuts [] b c d q = inl (c, refl, q)
+cuts (x ∷ a) b [] d q = inr (x ∷ a, refl, sym q)
+cuts (x ∷ a) b (y ∷ c) d q =
+    let h = heads x y (a ++ b) (c ++ d) q in
+    ⊎-elim
+    (λ w. inl (w .0, ap (λ (l : List Event). y ∷ l) (w .1) ∙ ap (λ (z : Event). z ∷ (a ++ w .0)) (sym (h .0)), w .2))
+    (λ w. inr (w .0, ap (λ (l : List Event). x ∷ l) (w .1) ∙ ap (λ (z : Event). z ∷ (c ++ w .0)) (h .0), w .2))
+    (cuts a b c d (h .1))
 
 -- the event comes later in a longer beginning
 pub further : (h u v : List Event) → h ≡ u ++ v → (a : List Event) (e : Event) (b : List Event) → v ≡ a ++ (e ∷ b) → Happens h (u ++ a) e

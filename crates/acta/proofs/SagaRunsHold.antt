@@ -96,7 +96,7 @@ module _ (tables : Tables) (h : List Event) (i : ℕ) where
 
 -- ---- own events
 
-own-append : (f n : ℕ) (u v : List Event) → ownWord f n (u ++ v) ≡ ownWord f n u ++ ownWord f n v
+pub own-append : (f n : ℕ) (u v : List Event) → ownWord f n (u ++ v) ≡ ownWord f n u ++ ownWord f n v
 unfolding ownWord
 own-append f n [] v = refl
 own-append f n (e ∷ u) v =
@@ -104,7 +104,7 @@ own-append f n (e ∷ u) v =
     (λ b. rw b (ap (λ (l : List Event). e ∷ l) (own-append f n u v)))
     (λ b. rw b (own-append f n u v))
 
-own-one : (f n : ℕ) (e : Event) → isOwn f n e ≡ true → ownWord f n (e ∷ []) ≡ e ∷ []
+pub own-one : (f n : ℕ) (e : Event) → isOwn f n e ≡ true → ownWord f n (e ∷ []) ≡ e ∷ []
 unfolding ownWord
 own-one f n e b = rw b
 

@@ -145,3 +145,10 @@ pub record Accepting (tables : Tables) (h : List Event) : Type 0 where
   pub delegate : (t r q : ℕ) → Takes tables h (Delegate t r q) ↔ DelegatesWhen tables h t r q
   pub keep-one : (t q : ℕ) → Takes tables h (CommitOne t q) ↔ KeepsOneWhen tables h t q
   pub drop-one : (t q : ℕ) → Takes tables h (AbortOne t q) ↔ DropsOneWhen tables h t q
+
+-- 000, atomic 5 and saga 9, View_t = H_ct: nothing is hidden and nothing locked. While no undo is in progress, a step or a plain one in progress may invoke any operation on any object,
+-- whatever others are at work on, as long as there is room
+abbrev pub Unlocked : Tables → List Event → Type 0
+Unlocked tables h =
+    (t o : ℕ) (m : Mark) → Party tables h t → o < objectCount tables → invoked h < mostOperations → ((x : ℕ) → isUndo (sortOf tables x) ≡ true → inProgress h x ≡ false)
+    → Takes tables h (Invoke t o m)

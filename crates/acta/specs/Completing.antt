@@ -4,13 +4,14 @@ use mathlib.Core.Path.{_≡_}
 use mathlib.Core.Bool.{true, false}
 use mathlib.Core.Logic.{_↔_}
 use mathlib.Core.List.{List, [], _∷_, _++_}
+use lib.ListN.{length}
 use Rattle.terms.specs.declared.Event.{Event}
 use Rattle.terms.specs.declared.Event.the-variants.{Abort, Commit}
-use Rattle.tables.specs.Sorts.{firstOf, isSaga, isUndo, sortOf, stepsOf}
+use Rattle.tables.specs.Sorts.{firstOf, isSaga, isUndo, numberOfAll, sortOf, stepsOf}
 use Rattle.tables.specs.declared.Sort.the-variants.{Saga}
 use Rattle.tables.specs.declared.Tables.{Tables}
 use Rattle.histories.specs.Histories.{history}
-use Rattle.acta.specs.Words.{aborted, committed, inProgress}
+use Rattle.acta.specs.Words.{aborted, began, committed, inProgress}
 
 -- e is accepted behind h: with it behind them the events are a history
 abbrev pub Takes : Tables → List Event → Event → Type 0
@@ -37,3 +38,7 @@ pub record Completed (tables : Tables) (h : List Event) : Type 0 where
   pub rest : List Event
   pub accepted : history tables (h ++ rest) ≡ h ++ rest
   pub complete : Complete tables (h ++ rest)
+  -- they are at most as many as there are transactions: one for each plain one, and 2n for each saga of n steps
+  pub few : length rest ≤ numberOfAll tables
+  -- and they begin nothing new: none but undos
+  pub begins-none : (t : ℕ) → isUndo (sortOf tables t) ≡ false → began (h ++ rest) t ≡ began h t

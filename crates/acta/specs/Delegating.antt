@@ -2,16 +2,18 @@
 use Prim.Native.Nat.{ℕ, _<_}
 use mathlib.Core.Path.{_≡_}
 use mathlib.Core.Bool.{Bool, true, false, cond, _&&_}
-use mathlib.Core.Logic.{_≢_, _⊎_}
+use mathlib.Core.Logic.{_↔_, _≢_, _⊎_}
 use mathlib.Core.List.{List, [], _∷_, _++_}
 use lib.Dec.{eqb}
 use Rattle.terms.specs.declared.Event.{Event}
 use Rattle.terms.specs.declared.Event.the-variants.{Abort, AbortOne, Begin, Commit, CommitOne, Delegate, Operation as Invoke, Spawn}
+use Rattle.terms.specs.declared.Mark.{Mark}
 use Rattle.ties.specs.declared.Fate.the-variants.{Aborted, Committed}
 use Rattle.tables.specs.Sorts.{isPlain, sortOf}
 use Rattle.tables.specs.declared.Tables.{Tables}
 use Rattle.rules.specs.declared.Parent.the-variants.{Nobody, Under}
-use Rattle.acta.specs.Words.{Happens, aborted, committed, dropped, ends, fate, inProgress, invoked, kept, parent, responsible, runs}
+use Rattle.histories.specs.Histories.{history, told}
+use Rattle.acta.specs.Words.{Happens, Tied, aborted, committed, dropped, ends, fate, inProgress, invoked, kept, parent, responsible, runs}
 
 -- q is one of those that t is at work on
 abbrev pub works : List Event → ℕ → ℕ → Bool
@@ -60,3 +62,16 @@ pub record Delegation (tables : Tables) (h : List Event) : Type 0 where
   pub permanent : (u v : List Event) → h ≡ u ++ v → (q : ℕ) → q < invoked u → runs u q ≡ false → (fate h q ≡ fate u q) × (responsible h q ≡ responsible u q)
   -- the one responsible for a running operation is in progress
   pub held : (q : ℕ) → q < invoked h → runs h q ≡ true → inProgress h (responsible h q) ≡ true
+
+-- behind h, t performs an operation and gives it to r at once
+abbrev pub givenAtOnce : List Event → ℕ → ℕ → ℕ → Mark → List Event
+givenAtOnce h t r o m = h ++ (Invoke t o m ∷ Delegate t r (invoked h) ∷ [])
+
+-- 004, section 3: a delegated operation is as if the receiver had performed it, and not the giver; h with those two events is a history
+pub record AsIf (tables : Tables) (h : List Event) (t r o : ℕ) (m : Mark) : Type 0 where
+  -- the receiver could have performed it
+  pub accepted : history tables (h ++ (Invoke r o m ∷ [])) ≡ h ++ (Invoke r o m ∷ [])
+  -- and then every operation would be what it is, stand as it stands, and be whose it is
+  pub deeds : (q : ℕ) → told (givenAtOnce h t r o m) .deed q ≡ told (h ++ (Invoke r o m ∷ [])) .deed q
+  -- and be tied to the same ones
+  pub ties : (p q : ℕ) → Tied (givenAtOnce h t r o m) p q ↔ Tied (h ++ (Invoke r o m ∷ [])) p q

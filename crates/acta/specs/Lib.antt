@@ -9,6 +9,10 @@ pub mod Completing
 pub mod Nesting
 pub mod Accepting
 pub mod SagaWords
+pub mod SagaLemmas
 pub mod Structure
 pub mod ByTheLetter
+pub mod Undos
+pub mod Frame
+pub mod Awaiting
 pub mod Acta

@@ -2,7 +2,7 @@
 use Prim.Native.Nat.{ℕ, _<_}
 use mathlib.Core.Path.{_≡_}
 use mathlib.Core.Bool.{true, false}
-use mathlib.Core.Logic.{_↔_, _⊎_}
+use mathlib.Core.Logic.{_↔_, _≢_, _⊎_}
 use mathlib.Core.List.{List, [], _∷_, _++_}
 use Rattle.terms.specs.Events.{isWrite}
 use Rattle.terms.specs.declared.Event.{Event}
@@ -22,6 +22,9 @@ pub record Recoverable (h : List Event) : Type 0 where
   -- whoever commits: each write tied before a read of its own that is not dropped is kept with that commit
   pub commit : (u : List Event) (t : ℕ) → Happens h u (Commit t) → parent u t ≡ Nobody → (p q : ℕ) → Tied u p q → isWrite (mark u p) ≡ true → isWrite (mark u q) ≡ false
       → responsible u q ≡ t → dropped u q ≡ false → kept (u ++ (Commit t ∷ [])) p ≡ true
+  -- if another is responsible for that write, it was kept before: the writer commits first
+  pub writer-first : (u : List Event) (t : ℕ) → Happens h u (Commit t) → parent u t ≡ Nobody → (p q : ℕ) → Tied u p q → isWrite (mark u p) ≡ true → isWrite (mark u q) ≡ false
+      → responsible u q ≡ t → dropped u q ≡ false → responsible u p ≢ t → kept u p ≡ true
   -- and so for good
   pub for-good : (u : List Event) (t : ℕ) → Happens h u (Commit t) → parent u t ≡ Nobody → (p q : ℕ) → Tied u p q → isWrite (mark u p) ≡ true → isWrite (mark u q) ≡ false
       → responsible u q ≡ t → dropped u q ≡ false → kept h p ≡ true
