@@ -43,7 +43,8 @@ use Rattle.acta.proofs.NestingHolds.{begun, nesting}
 use Rattle.acta.proofs.ObjectsHold.{conflict-serializable, recoverable}
 use Rattle.acta.proofs.Places.{cuts, further, heads, occurs-append, occurs-where}
 use Rattle.acta.proofs.Runs.{is-history}
-use Rattle.acta.proofs.SagaLemmasHold.{aborts-mine, commits-mine, saga-lemmas}
+use Rattle.acta.proofs.SagaLemmasHold.{saga-lemmas}
+use Rattle.acta.proofs.WordParts.{aborts-mine, commits-mine}
 use Rattle.acta.proofs.SagaRunsHold.{staged}
 use Rattle.acta.proofs.SagaStages.{Stage, at-rest, closed, failed, in-step, in-undo, not-begun, torn, undoing}
 use Rattle.acta.proofs.ToldHolds.{is-told}

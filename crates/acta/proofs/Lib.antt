@@ -20,6 +20,7 @@ pub mod AcceptingHolds
 pub mod Stages
 pub mod SagaStages
 pub mod SagaRunsHold
+pub mod WordParts
 pub mod SagaLemmasHold
 pub mod StructureHolds
 pub mod NestingHolds
