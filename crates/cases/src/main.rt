@@ -21,7 +21,7 @@ use terms::{Book, Refusal};
 use totals::{Answer, Totals};
 
 // How a book is read: on past refused events, or to the first of them.
-#[derive(Drop)]
+#[derive(Clone, Copy)]
 enum Way {
     On,
     ToFirstRefusal,

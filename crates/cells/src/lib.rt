@@ -157,7 +157,7 @@ fn next_held(ops: &[u32; Operation::MOST], from: usize, to: usize, t: usize) -> 
 }
 
 // What becomes of an operation: it ends in a fate, when so many operations were accepted, or another answers for it.
-#[derive(Drop)]
+#[derive(Clone, Copy)]
 enum Becomes {
     Ended(Fate, u16),
     Passed(u16),

@@ -10,7 +10,7 @@ use tables::Tables;
 use terms::Book;
 
 // The closing step of a saga, with its transaction.
-#[derive(Drop)]
+#[derive(Clone, Copy)]
 pub enum NextStep {
     NoStep,
     ToBegin(usize),

@@ -210,7 +210,7 @@ pub fn judged(names: &[u8], ends: &[u32], steps: &[u16], lists: &[u16]) -> PlanV
 // ---- the text that staff write
 
 // What a line begins with: it is passed over, or names a move, a step or a class list, or is none of these.
-#[derive(Drop)]
+#[derive(Clone, Copy)]
 enum Word {
     Passed,
     Move,
@@ -220,7 +220,7 @@ enum Word {
 }
 
 // How much of each room a plan takes: bytes of names, names, moves, class lists.
-#[derive(Drop)]
+#[derive(Clone, Copy)]
 pub struct Counts {
     pub names: usize,
     pub ends: usize,

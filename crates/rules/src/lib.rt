@@ -15,7 +15,7 @@ use terms::Book;
 use ties::Ops;
 
 // How a transaction stands.
-#[derive(Drop)]
+#[derive(Clone, Copy)]
 pub enum Phase {
     Idle,
     Active,
@@ -24,20 +24,20 @@ pub enum Phase {
 }
 
 // Whose child a transaction is: whoever spawned it, for good.
-#[derive(Drop)]
+#[derive(Clone, Copy)]
 pub enum Parent {
     Nobody,
     Under(u16),
 }
 
-#[derive(Drop)]
+#[derive(Clone, Copy)]
 pub struct Transaction {
     pub phase: Phase,
     pub parent: Parent,
 }
 
 // How everything stands between two events.
-#[derive(Drop)]
+#[derive(Clone, Copy)]
 pub struct State {
     pub transactions: [Transaction; Book::TRANSACTIONS],
     pub ops: Ops,

@@ -21,7 +21,7 @@ enum Sign {
 }
 
 // What stands at a place of the text of a book.
-#[derive(Drop)]
+#[derive(Clone, Copy)]
 pub enum Stage {
     Edition,
     Sagas,
@@ -35,7 +35,7 @@ pub enum Stage {
 }
 
 // What is due in the text: the stage of the next line, how many lines of that stage follow it, and the book's edition.
-#[derive(Drop)]
+#[derive(Clone, Copy)]
 pub struct Due {
     stage: Stage,
     left: usize,

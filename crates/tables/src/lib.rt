@@ -13,7 +13,7 @@ use number::{Edition, Field, Number, Row};
 use terms::{Book, Refusal, Saga};
 
 // What a dependency asks of its base before its dependent may commit (the first three) or begin.
-#[derive(Drop)]
+#[derive(Clone, Copy)]
 pub enum Kind {
     Commit,
     Abort,
@@ -24,14 +24,14 @@ pub enum Kind {
     BeginOnAbort,
 }
 
-#[derive(Drop)]
+#[derive(Clone, Copy)]
 pub struct Dependency {
     pub dependent: u8,
     pub base: u8,
     pub kind: Kind,
 }
 
-#[derive(Drop)]
+#[derive(Clone, Copy)]
 pub struct Tables {
     pub sagas: usize,
     pub steps: [u8; Book::SAGAS],
@@ -43,7 +43,7 @@ pub struct Tables {
 
 // What a number stands for: a saga, a step or an undo, with the saga's first number and its steps and which step or undo it is;
 // a plain transaction; or none.
-#[derive(Drop)]
+#[derive(Clone, Copy)]
 pub enum Sort {
     Saga(u16, u16),
     Step(u16, u16, u16),
@@ -67,7 +67,7 @@ pub enum Entry {
 }
 
 // The place of the first event, or a refusal with its place.
-#[derive(Drop)]
+#[derive(Clone, Copy)]
 pub enum TablesAnswer {
     Read(usize),
     Refused(Refusal, usize),
@@ -81,7 +81,7 @@ pub struct TablesRead {
 
 // What becomes of tables that can never move, because begin dependencies go round in a circle: they are refused, or, where the caller says so,
 // read all the same.
-#[derive(Drop)]
+#[derive(Clone, Copy)]
 pub enum Circles {
     Forbidden,
     Permitted,

@@ -6,7 +6,7 @@ ghost use Rattle.terms.specs.Events.{is_write};
 ghost use Rattle.terms.specs.Refusals.{number_of, verdict_number};
 
 // A book: the bytes in which a service keeps its tables and its events. Its limits are these.
-#[derive(Drop)]
+#[derive(Clone, Copy)]
 pub struct Book;
 
 impl Book {
@@ -22,7 +22,7 @@ impl Book {
 }
 
 // A saga of a book: its own number, which is the first of the numbers it owns, and how many steps it has.
-#[derive(Drop)]
+#[derive(Clone, Copy)]
 pub struct Saga {
     pub first: u16,
     pub steps: u16,
@@ -60,7 +60,7 @@ impl Limits {
 }
 
 // What an operation does to its object.
-#[derive(Drop)]
+#[derive(Clone, Copy)]
 pub enum Mark {
     Read,
     Write,
@@ -78,7 +78,7 @@ impl Mark {
 }
 
 // One event of a book: its sort with its fields.
-#[derive(Drop)]
+#[derive(Clone, Copy)]
 pub enum Event {
     Begin(usize),
     Commit(usize),
@@ -91,7 +91,7 @@ pub enum Event {
 }
 
 // Why a book, an event or a room is refused: one case for each number of the table of refusals.
-#[derive(Drop)]
+#[derive(Clone, Copy)]
 pub enum Refusal {
     TooLong,
     Torn,
@@ -150,7 +150,7 @@ impl Refusal {
 }
 
 // What judging answers.
-#[derive(Drop)]
+#[derive(Clone, Copy)]
 pub enum Verdict {
     Accepted,
     Refused(Refusal),

@@ -6,7 +6,7 @@ ghost use Rattle.ties.specs.Ties.{conflict, tied_to, is_gone, counts, pairs_of, 
 use terms::{Book, Mark};
 
 // How an operation stands. A blank place counts as aborted: nothing may end or change it.
-#[derive(Drop)]
+#[derive(Clone, Copy)]
 pub enum Fate {
     Aborted,
     Active,
@@ -14,7 +14,7 @@ pub enum Fate {
 }
 
 // An accepted operation; `ended` is how many operations were accepted when it ended.
-#[derive(Drop)]
+#[derive(Clone, Copy)]
 pub struct Operation {
     pub object: u8,
     pub mark: Mark,
@@ -179,7 +179,7 @@ impl Operation {
 }
 
 // The operations accepted so far, by their numbers.
-#[derive(Drop)]
+#[derive(Clone, Copy)]
 pub struct Ops {
     pub all: [Operation; Operation::MOST],
     pub count: usize,

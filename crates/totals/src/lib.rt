@@ -13,7 +13,7 @@ use terms::Verdict;
 
 // The totals of the books that were added one after another: how many they are, how many of them were refused, and how many of their sagas were begun, committed, backed
 // out and are still open. Any numbers may stand in it: one that is larger than 1,000 books can bring about counts as what they can.
-#[derive(Drop)]
+#[derive(Clone, Copy)]
 pub struct Totals {
     pub books: u64,
     pub refused: u64,

@@ -1,0 +1,11 @@
+use mathlib.Core.Path.{sym, ap, ◌∙◌}
+use Rattle.cells.specs.Cells.{becomes}
+use Rattle.cells.specs.declared.Becomes.{Becomes}
+use borrow.Author.Rules.{rules}
+use Rattle.cells.proofs.Becomes.of.Goals as goal
+
+pub returns-in-Ended : goal.returns-in-Ended
+returns-in-Ended c = c.ended-as.ensures ∙ ap (λ (how : Becomes). becomes how c.before.before.before.before.args.op) (sym c.before.before.self-1.given.1)
+
+pub returns-in-Passed : goal.returns-in-Passed
+returns-in-Passed c = c.passed_to.ensures ∙ ap (λ (how : Becomes). becomes how c.before.before.before.before.args.op) (sym c.before.before.self-in-Passed-1.given.1)

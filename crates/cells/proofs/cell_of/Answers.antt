@@ -1,0 +1,34 @@
+use native.Mathlib.Omega.{arith}
+use Rattle.cells.proofs.CellLaws.{cell-back, mark-small, fate-small}
+use Prim.Native.Nat.{◌<◌}
+use borrow.Author.Rules.{rules}
+use Rattle.cells.proofs.cell_of.Goals as goal
+
+m-small : (c : goal.After-mark_code-m) → c.mark_code-m.result < 2
+m-small c = omega (arith, c.mark_code-m.ensures, mark-small c.before.args.op.mark)
+
+f-small : (c : goal.After-fate_code-f) → c.fate_code-f.result < 3
+f-small c = omega (arith, c.fate_code-f.ensures, fate-small c.before.before.args.op.fate)
+
+pub overflow_mul-result : goal.overflow_mul-result
+overflow_mul-result c = record { fits = omega (arith, m-small c.before.before.before.before, f-small c.before.before.before) }
+
+pub overflow_add-result : goal.overflow_add-result
+overflow_add-result c = record { fits = omega (arith, m-small c.before.before.before.before, f-small c.before.before.before) }
+
+pub overflow_mul-result-2 : goal.overflow_mul-result-2
+overflow_mul-result-2 c = record { fits = omega (arith, m-small c.before.before.before.before, f-small c.before.before.before) }
+
+pub overflow_add-result-2 : goal.overflow_add-result-2
+overflow_add-result-2 c = record { fits = omega (arith, m-small c.before.before.before.before, f-small c.before.before.before) }
+
+pub overflow_add-result-3 : goal.overflow_add-result-3
+overflow_add-result-3 c = record { fits = omega (arith, m-small c.before.before.before.before, f-small c.before.before.before) }
+
+pub overflow_add-result-4 : goal.overflow_add-result-4
+overflow_add-result-4 c = record { fits = omega (arith, m-small c.before.before.before.before, f-small c.before.before.before) }
+
+pub returns : goal.returns
+returns c =
+    let op = c.before.before.before.before.before.args.op in
+    rw (c.before.before.before.before.mark_code-m.ensures, c.before.before.before.fate_code-f.ensures) (cell-back op c.before.before.before.before.before.requires)

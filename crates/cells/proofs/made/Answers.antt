@@ -1,0 +1,24 @@
+use native.Mathlib.Omega.{arith}
+use mathlib.Core.Path.{sym, ◌∙◌}
+use Rattle.laws.proofs.Bools.{on-not, off-not}
+use Rattle.cells.proofs.CellLaws.{made-stored, made_none, made-unfit}
+use borrow.Author.Rules.{rules}
+use Rattle.cells.proofs.made.Goals as goal
+
+pub returns-then-not-fits : goal.returns-then-not-fits
+returns-then-not-fits c =
+    let a = c.before.before.args in
+    made-unfit a.ops.now a.n a.op (sym c.before.fits2.ensures ∙ on-not c.before.fits2.result c.if-not-fits.true)
+
+pub returns-then-n-ge-MOST : goal.returns-then-n-ge-MOST
+returns-then-n-ge-MOST c =
+    let a = c.before.before.before.args in
+    made_none a.ops.now a.n a.op (sym c.before.before.fits2.ensures ∙ off-not c.before.before.fits2.result c.before.if-not-fits.false) (omega arith)
+
+pub cell_of-requires : goal.cell_of-requires
+cell_of-requires c = sym c.before.before.fits2.ensures ∙ off-not c.before.before.fits2.result c.before.if-not-fits.false
+
+pub returns : goal.returns
+returns c =
+    let a = c.before.before.before.before.args in
+    made-stored a.ops.now a.n c.cell-of.result a.op (sym c.before.before.before.fits2.ensures ∙ off-not c.before.before.before.fits2.result c.before.before.if-not-fits.false) c.cell-of.ensures (omega arith)

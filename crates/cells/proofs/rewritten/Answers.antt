@@ -1,0 +1,60 @@
+use borrow.Author.Rules.{rules}
+use native.Mathlib.Omega.{arith}
+use Prim.Native.Nat.{◌+◌, ◌-◌, ◌≤◌, ◌<◌}
+use mathlib.Core.Path.{◌≡◌, ap, ◌∙◌}
+use mathlib.Core.Bool.{true}
+use lib.ListN.{get_or, set}
+use Rattle.ties.specs.Operations.{held_by}
+use Rattle.cells.specs.Cells.{op_in, held_in, becomes}
+use Rattle.cells.proofs.CellLaws.{op_fits, becomes-fits, Done, done_none, done_held, done_next, done_all}
+use Rattle.cells.proofs.rewritten.Goals as goal
+
+pub next_held-i-requires : goal.next_held-i-requires
+next_held-i-requires c = (omega arith, omega arith)
+
+pub loop-i-init : goal.loop-i-init
+loop-i-init c =
+    let a = c.before.before.before.args in
+    let all = c.before.before.size-all.result in
+    let x = c.next_held-i in (
+      omega (arith, x.ensures.high),
+      omega arith,
+      done_next a.t (becomes a.how) a.ops.now 0 all x.result a.ops.now (done_none a.t (becomes a.how) a.ops.now) x.ensures,
+      x.ensures.here,
+    )
+
+pub cell_of-requires : goal.cell_of-requires
+cell_of-requires c =
+    let l = c.before.before.before.before.loop-i in
+    let cell = get_or l.ops l.i 0 in
+    let s = c.before.before.before.before.before.before.before.before in
+    rw (c.of-after.ensures, c.before.op_in-op.ensures) (becomes-fits s.args.how (op_in cell) s.requires (op_fits cell))
+
+pub next_held-i-requires-in-loop-i : goal.next_held-i-requires-in-loop-i
+next_held-i-requires-in-loop-i c = (omega arith, omega arith)
+
+pub loop-i-smaller : goal.loop-i-smaller
+loop-i-smaller c = omega (arith, c.next_held-i-in-loop-i.ensures.low)
+
+pub loop-i-preserved : goal.loop-i-preserved
+loop-i-preserved c =
+    let a = c.before.before.before.before.before.before.before.before.before.before.before.args in
+    let l = c.before.before.before.before.before.before.before.loop-i in
+    let all = c.before.before.before.before.before.before.before.before.before.before.size-all.result in
+    let op = c.before.before.before.before.op_in-op in
+    let cell = c.before.before.cell-of in
+    let x = c.next_held-i-in-loop-i in
+    let held = ap (held_by a.t) op.ensures ∙ l.invariant.3 (omega arith) in
+    let done = done_held a.t (becomes a.how) a.ops.now l.i l.ops l.invariant.2 op.result op.ensures cell.result held (cell.ensures ∙ c.before.before.before.of-after.ensures) in (
+      omega (arith, x.ensures.high),
+      omega arith,
+      done_next a.t (becomes a.how) a.ops.now (l.i + 1) all x.result (set l.ops l.i cell.result) done x.ensures,
+      x.ensures.here,
+    )
+
+pub returns : goal.returns
+returns c =
+    let a = c.before.before.before.before.before.args in
+    let l = c.before.loop-i in
+    let all = c.before.before.before.before.size-all in
+    done_all a.t (becomes a.how) a.ops.now a.n l.i l.ops l.invariant.2 (omega (arith, all.ensures))

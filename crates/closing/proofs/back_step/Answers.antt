@@ -1,0 +1,31 @@
+use native.Mathlib.Omega.{arith}
+use Prim.Native.Nat.{◌+◌}
+use mathlib.Core.Path.{ap, ◌∙◌}
+use Rattle.rules.specs.States.{own}
+use Rattle.rules.specs.declared.Phase.{Phase}
+use Rattle.closing.specs.Closing.{undo_step}
+use Rattle.closing.proofs.ReturnLaws.{back-abort, back_none, back-undo}
+use borrow.Author.Rules.{rules}
+use Rattle.closing.proofs.back_step.Goals as goal
+
+pub returns-then-active-ne0 : goal.returns-then-active-ne0
+returns-then-active-ne0 c =
+    let a = c.before.before.args in
+    back-abort a.first a.n (own a.transactions a.first) c.before.active_step-active.result c.before.active_step-active.ensures (omega arith)
+
+pub returns-then-next-eq0 : goal.returns-then-next-eq0
+returns-then-next-eq0 c =
+    let a = c.before.before.before.before.args in
+    let d = c.before.before.before.active_step-active in
+    let u = c.before.next_undo-next in
+    back_none a.first a.n (own a.transactions a.first) d.result d.ensures (omega arith) u.result u.ensures (omega arith)
+
+pub returns : goal.returns
+returns c =
+    let a = c.before.before.before.before.before.before.args in
+    let d = c.before.before.before.before.before.active_step-active in
+    let u = c.before.before.before.next_undo-next in
+    let t = a.first + (a.n + u.result) in
+    c.undo-step.ensures
+    ∙ ap (λ (p : Phase). undo_step p t) c.before.own-undo.ensures
+    ∙ back-undo a.first a.n (own a.transactions a.first) d.result d.ensures (omega arith) u.result u.ensures (omega arith)

@@ -1,0 +1,7 @@
+use mathlib.Core.Path.{ap}
+use lib.Dec.{ltb}
+use borrow.Author.Rules.{rules}
+use Rattle.closing.proofs.is_listed.Goals as goal
+
+pub returns : goal.returns
+returns c = ap (ltb c.before.args.saga) c.saga-count.ensures

@@ -1,0 +1,17 @@
+use borrow.Author.Rules.{rules}
+use native.Mathlib.Omega.{arith}
+use mathlib.Core.Path.{◌≡◌, refl, sym, ap, ap₂, ◌∙◌}
+use mathlib.Core.Bool.{Bool, not, ◌&&◌}
+use Prim.Native.Nat.{ℕ, ◌+◌, ◌-◌, ◌≤◌}
+use Rattle.laws.specs.Index.{highest}
+use Rattle.rules.specs.States.{is_committed, own}
+use Rattle.rules.specs.declared.Phase.{Phase}
+use Rattle.closing.specs.Closing.{next_undo}
+use Rattle.laws.proofs.StepLaws.{highest-zero, down-hit, down-miss, down-end}
+use Rattle.closing.proofs.next_undo.Given as goal
+
+abbrev pub invariant-loop-i : goal.invariant-loop-i
+invariant-loop-i l = (l.i ≤ l.n - 1) × (highest (l.n - 1) (due l.n (own l.transactions l.first)) ≡ highest l.i (due l.n (own l.transactions l.first)))
+
+abbrev pub decreases-loop-i : goal.decreases-loop-i
+decreases-loop-i l = l.i

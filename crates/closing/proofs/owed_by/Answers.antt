@@ -1,0 +1,16 @@
+use mathlib.Core.Path.{sym, ap}
+use Rattle.closing.specs.Closing.{owed_by}
+use borrow.Author.Rules.{rules}
+use Rattle.closing.proofs.owed_by.Goals as goal
+
+pub returns-in-Idle : goal.returns-in-Idle
+returns-in-Idle c = sym (ap owed_by c.enum_told-1.given.1)
+
+pub returns-in-Active : goal.returns-in-Active
+returns-in-Active c = sym (ap owed_by c.enum_told-in-Active-1.given.1)
+
+pub returns-in-Committed : goal.returns-in-Committed
+returns-in-Committed c = sym (ap owed_by c.enum_told-in-Committed-1.given.1)
+
+pub returns-in-Aborted : goal.returns-in-Aborted
+returns-in-Aborted c = sym (ap owed_by c.enum_told-in-Aborted-1.given.1)

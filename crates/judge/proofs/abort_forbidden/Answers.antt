@@ -1,0 +1,8 @@
+use mathlib.Core.Path.{ap, ◌∙◌}
+use Rattle.rules.specs.Lent.{transactions_in}
+use Rattle.rules.specs.Rules.{abort_barred}
+use borrow.Author.Rules.{rules}
+use Rattle.judge.proofs.abort_forbidden.Goals as goal
+
+pub returns : goal.returns
+returns c = c.abort-barred.ensures ∙ ap (abort_barred (transactions_in c.before.before.args.transactions.now)) c.before.sort_at-sort.ensures

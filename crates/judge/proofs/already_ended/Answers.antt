@@ -1,0 +1,12 @@
+use mathlib.Core.Path.{sym, ap, ◌∙◌}
+use mathlib.Core.Bool.{not}
+use Rattle.ties.specs.Operations.{is_active}
+use Rattle.ties.specs.declared.Operation.{Operation}
+use Rattle.cells.proofs.CellLaws.{op-at}
+use borrow.Author.Rules.{rules}
+use Rattle.judge.proofs.already_ended.Goals as goal
+
+pub returns : goal.returns
+returns c n =
+    let a = c.before.before.before.args in
+    ap not (c.is-active.ensures ∙ ap (λ (op : Operation). is_active op.fate) (c.before.op_in-op.ensures ∙ sym (op-at a.ops.now n a.q)))

@@ -1,0 +1,89 @@
+use native.Mathlib.Omega.{arith}
+use Prim.Native.Nat.{ℕ, ◌<◌}
+use mathlib.Core.Path.{◌≡◌, sym, ap, ap₂, ◌∙◌}
+use mathlib.Core.Bool.{not, ◌||◌}
+use mathlib.Core.List.{List}
+use lib.ListN.{drop}
+use Rattle.laws.specs.Lines.{Line}
+use Rattle.terms.specs.declared.Refusal.{Refusal}
+use Rattle.tables.specs.declared.Sort.{Sort}
+use Rattle.tables.specs.declared.Tables.{Tables}
+use Rattle.sheet.specs.Sheet.{Holds}
+use Rattle.rules.specs.Lent.{transactions_in}
+use Rattle.cells.specs.Cells.{ops_in}
+use Rattle.tables.specs.Sorts.{is_known, is_plain}
+use Rattle.rules.specs.Rules.{commit_barred}
+use Rattle.rules.specs.declared.Parent.TheVariants.{Nobody, Under}
+use Rattle.judge.specs.Known.{Ringed}
+use Rattle.judge.specs.Judge.{hand_lines, commit_under, ruled_by}
+use Rattle.judge.specs.declared.Change.{Change}
+use Rattle.judge.specs.declared.Ruling.{Ruling}
+use Rattle.judge.proofs.RuleLaws.{ruled-passed, ruled-stopped}
+use Rattle.judge.proofs.LentLaws.{sorted}
+use borrow.Author.Rules.{rules}
+use Rattle.judge.proofs.hand_over.Goals as goal
+
+-- the lines from one on, and what they give
+abbrev rest : ℕ → goal.Start → Tables → List (Line Refusal)
+rest k s tables = drop k (hand_lines tables (transactions_in s.args.transactions.now) (ops_in s.args.ops.now s.args.n) s.args.t s.args.m)
+
+abbrev becomes : goal.Start → Tables → Change
+becomes s tables = commit_under s.args.t (Under s.args.m)
+
+abbrev from : ℕ → goal.Start → Tables → Ruling
+from k s tables = ruled_by (rest k s tables) (becomes s tables)
+
+abbrev Held : goal.Start → Tables → Type 0
+Held s tables = Holds tables s.args.sheet.now
+
+-- each line that was passed
+past1 : (c : goal.Else-unknown) (tables : Tables) → let s = c.before.before in Held s tables → from 0 s tables ≡ from 1 s tables
+past1 c tables h =
+    let s = c.before.before in
+    let a = s.args in
+    ruled-passed (rest 0 s tables) (becomes s tables) (sym (sorted (λ (x : Sort). not (is_known x)) a.sheet.now tables h a.t c.before.unknown.ensures) ∙ c.if-unknown.false)
+
+past2 : (c : goal.Else-inactive) (tables : Tables) → let s = c.before.before.before.before in Held s tables → from 0 s tables ≡ from 2 s tables
+past2 c tables h =
+    let s = c.before.before.before.before in
+    let a = s.args in
+    past1 c.before.before tables h ∙ ruled-passed (rest 1 s tables) (becomes s tables) (sym c.before.inactive.ensures ∙ c.if-inactive.false)
+
+past3 : (c : goal.Else-declared_bars-awaits_child) (tables : Tables) → let s = c.before.before.before.before.before.before.before.before in Held s tables → from 0 s tables ≡ from 3 s tables
+past3 c tables h =
+    let s = c.before.before.before.before.before.before.before.before in
+    let a = s.args in
+    past2 c.before.before.before.before tables h ∙ ruled-passed (rest 2 s tables) (becomes s tables) (sym (ap₂ ◌||◌ (c.before.before.before.declared-bars.ensures tables h) (ap₂ ◌||◌ (c.before.before.awaits-child.ensures tables h) c.before.inactive-2.ensures)) ∙ c.if-declared_bars-awaits_child.false)
+
+past4 : (c : goal.Else-hands_a_ring) (tables : Tables) → let s = c.before.before.before.before.before.before.before.before.before.before in Held s tables → from 0 s tables ≡ from 4 s tables
+past4 c tables h =
+    let s = c.before.before.before.before.before.before.before.before.before.before in
+    let a = s.args in
+    past3 c.before.before tables h ∙ ruled-passed (rest 3 s tables) (becomes s tables) (sym (c.before.hands-a-ring.ensures tables h) ∙ c.if-hands_a_ring.false)
+
+pub returns-then-unknown : goal.returns-then-unknown
+returns-then-unknown c tables h =
+    let s = c.before.before.before in
+    let a = s.args in
+    c.refused.ensures ∙ sym (ruled-stopped (rest 0 s tables) (becomes s tables) (sym (sorted (λ (x : Sort). not (is_known x)) a.sheet.now tables h a.t c.before.before.unknown.ensures) ∙ c.before.if-unknown.true))
+
+pub returns-then-inactive : goal.returns-then-inactive
+returns-then-inactive c tables h =
+    let s = c.before.before.before.before.before in
+    let a = s.args in
+    c.refused-then-inactive.ensures ∙ sym (past1 c.before.before.before tables h ∙ ruled-stopped (rest 1 s tables) (becomes s tables) (sym c.before.before.inactive.ensures ∙ c.before.if-inactive.true))
+
+pub returns-then-declared_bars-awaits_child : goal.returns-then-declared_bars-awaits_child
+returns-then-declared_bars-awaits_child c tables h =
+    let s = c.before.before.before.before.before.before.before.before.before in
+    let a = s.args in
+    c.refused-then-declared_bars-awaits_child.ensures ∙ sym (past2 c.before.before.before.before.before tables h ∙ ruled-stopped (rest 2 s tables) (becomes s tables) (sym (ap₂ ◌||◌ (c.before.before.before.before.declared-bars.ensures tables h) (ap₂ ◌||◌ (c.before.before.before.awaits-child.ensures tables h) c.before.before.inactive-2.ensures)) ∙ c.before.if-declared_bars-awaits_child.true))
+
+pub returns-then-hands_a_ring : goal.returns-then-hands_a_ring
+returns-then-hands_a_ring c tables h =
+    let s = c.before.before.before.before.before.before.before.before.before.before.before in
+    let a = s.args in
+    c.refused-then-hands_a_ring.ensures ∙ sym (past3 c.before.before.before tables h ∙ ruled-stopped (rest 3 s tables) (becomes s tables) (sym (c.before.before.hands-a-ring.ensures tables h) ∙ c.before.if-hands_a_ring.true))
+
+pub returns : goal.returns
+returns c tables h = c.accepted.ensures ∙ sym (past4 c.before tables h)

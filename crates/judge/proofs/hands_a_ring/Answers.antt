@@ -1,0 +1,19 @@
+use mathlib.Core.Path.{◌∙◌}
+use Rattle.ties.specs.Ties.{before_handed}
+use Rattle.cells.specs.Cells.{ops_in}
+use Rattle.rules.specs.Lent.{transactions_in}
+use Rattle.rules.proofs.RuleLaws.{ring-some, ring-nobody}
+use borrow.Author.Rules.{rules}
+use Rattle.judge.proofs.hands_a_ring.Goals as goal
+
+pub returns-then-undos-eq0 : goal.returns-then-undos-eq0
+returns-then-undos-eq0 c tables h =
+    let a = c.before.before.args in
+    let u = c.before.active_undos-undos in
+    ring-nobody (before_handed (ops_in a.ops.now a.n) a.t a.m) tables (transactions_in a.transactions.now) u.result a.m (u.ensures tables h) c.if-undos-eq0.true
+
+pub returns : goal.returns
+returns c tables h =
+    let a = c.before.before.before.args in
+    let u = c.before.before.active_undos-undos in
+    c.ring-handed.ensures ∙ ring-some (before_handed (ops_in a.ops.now a.n) a.t a.m) tables (transactions_in a.transactions.now) u.result a.m (u.ensures tables h)

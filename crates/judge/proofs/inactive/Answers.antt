@@ -1,0 +1,8 @@
+use mathlib.Core.Path.{ap, ◌∙◌}
+use mathlib.Core.Bool.{not}
+use Rattle.rules.specs.States.{is_active}
+use borrow.Author.Rules.{rules}
+use Rattle.judge.proofs.inactive.Goals as goal
+
+pub returns : goal.returns
+returns c = ap not (c.is-active.ensures ∙ ap is_active c.before.phase_at-phase.ensures)

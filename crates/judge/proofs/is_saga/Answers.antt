@@ -1,0 +1,7 @@
+use mathlib.Core.Path.{ap, ◌∙◌}
+use Rattle.tables.specs.Sorts.{is_saga}
+use borrow.Author.Rules.{rules}
+use Rattle.judge.proofs.is_saga.Goals as goal
+
+pub returns : goal.returns
+returns c = c.is-saga.ensures ∙ ap is_saga c.before.sort_at-sort.ensures

@@ -1,0 +1,7 @@
+use mathlib.Core.Path.{ap, ◌∙◌}
+use Rattle.tables.specs.Sorts.{is_undo}
+use borrow.Author.Rules.{rules}
+use Rattle.judge.proofs.is_undo.Goals as goal
+
+pub returns : goal.returns
+returns c = c.is-undo.ensures ∙ ap is_undo c.before.sort_at-sort.ensures

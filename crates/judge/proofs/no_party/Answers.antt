@@ -1,0 +1,9 @@
+use mathlib.Core.Path.{ap, ap₂, ◌∙◌}
+use mathlib.Core.Bool.{◌||◌}
+use Rattle.tables.specs.Sorts.{is_saga, is_undo}
+use borrow.Author.Rules.{rules}
+use Rattle.judge.proofs.no_party.Goals as goal
+
+pub returns : goal.returns
+returns c =
+    ap₂ ◌||◌ (c.before.is-saga.ensures ∙ ap is_saga c.before.before.sort_at-sort.ensures) (c.is-undo.ensures ∙ ap is_undo c.before.before.sort_at-sort.ensures)

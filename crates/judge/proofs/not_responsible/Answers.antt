@@ -1,0 +1,12 @@
+use mathlib.Core.Path.{sym, ap, ◌∙◌}
+use mathlib.Core.Bool.{not}
+use lib.Dec.{eqb}
+use Rattle.ties.specs.declared.Operation.{Operation}
+use Rattle.cells.proofs.CellLaws.{op-at}
+use borrow.Author.Rules.{rules}
+use Rattle.judge.proofs.not_responsible.Goals as goal
+
+pub returns : goal.returns
+returns c n =
+    let a = c.before.before.before.args in
+    ap (λ (op : Operation). not (eqb op.responsible a.t)) (c.before.op_in-op.ensures ∙ sym (op-at a.ops.now n a.q))

@@ -1,0 +1,8 @@
+use mathlib.Core.Path.{ap, ◌∙◌}
+use mathlib.Core.Bool.{not}
+use Rattle.tables.specs.Sorts.{is_known}
+use borrow.Author.Rules.{rules}
+use Rattle.judge.proofs.unknown.Goals as goal
+
+pub returns : goal.returns
+returns c = ap not (c.is_Known.ensures ∙ ap is_known c.before.sort_at-sort.ensures)

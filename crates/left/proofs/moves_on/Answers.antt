@@ -1,0 +1,17 @@
+use mathlib.Core.Path.{sym, ap, ◌∙◌}
+use Rattle.sheet.specs.Sheet.{sort_at}
+use Rattle.left.specs.Left.{moves_by}
+use borrow.Author.Rules.{rules}
+use Rattle.left.proofs.moves_on.Goals as goal
+
+pub returns-in-Begin : goal.returns-in-Begin
+returns-in-Begin c = c.sort-at.ensures ∙ ap (moves_by (sort_at c.before.before.before.before.args.sheet.now)) (sym c.before.before.event-1.given.1)
+
+pub returns-in-Commit : goal.returns-in-Commit
+returns-in-Commit c = c.sort_at-in-Commit.ensures ∙ ap (moves_by (sort_at c.before.before.before.before.args.sheet.now)) (sym c.before.before.event-in-Commit-1.given.1)
+
+pub returns-in-Abort : goal.returns-in-Abort
+returns-in-Abort c = c.sort_at-in-Abort.ensures ∙ ap (moves_by (sort_at c.before.before.before.before.args.sheet.now)) (sym c.before.before.event-in-Abort-1.given.1)
+
+pub returns-in-Spawn : goal.returns-in-Spawn
+returns-in-Spawn c = c.sort_at-in-Spawn.ensures ∙ ap (moves_by (sort_at c.before.before.before.before.args.sheet.now)) (sym c.before.before.event-in-Spawn-1.given.1)

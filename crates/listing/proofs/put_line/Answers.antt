@@ -1,0 +1,36 @@
+use mathlib.Core.Path.{sym, ap, ◌∙◌}
+use mathlib.Core.List.{List}
+use Prim.Native.Nat.{ℕ}
+use native.Mathlib.Omega.{arith}
+use Rattle.listing.specs.Lines.{placed}
+use Rattle.listing.specs.Texts.{put_answer, put_room}
+use Rattle.listing.proofs.ListingLaws.{place_none, place-there}
+use borrow.Author.Rules.{rules}
+use Rattle.listing.proofs.put_line.Goals as goal
+
+pub returns-then-lines-k : goal.returns-then-lines-k
+returns-then-lines-k c =
+    let a = c.before.before.before.args in
+    place_none a.judgement a.k a.room.now (omega (arith, c.before.line_count-lines.ensures, c.if-lines-k.true))
+
+pub returns-in-Wrote : goal.returns-in-Wrote
+returns-in-Wrote c =
+    let a = c.before.before.before.before.before.before.before.before.before.before.before.args in
+    let room = a.room.now in
+    let p = c.before.before.before.before.before.put in
+    let l = c.before.before.before.before.before.before.before.line-text in
+    let there = place-there a.judgement a.k room (omega (arith, c.before.before.before.before.before.before.before.before.before.line_count-lines.ensures, c.before.before.before.before.before.before.before.before.if-lines-k.false)) in (
+      ap placed (sym c.before.n-1.given.1 ∙ p.ensures.0 ∙ ap (λ (x : List ℕ). put_answer x room) l.ensures) ∙ there.0,
+      p.ensures.1 ∙ ap (λ (x : List ℕ). put_room x room) l.ensures ∙ there.1,
+    )
+
+pub returns-in-NoRoom : goal.returns-in-NoRoom
+returns-in-NoRoom c =
+    let a = c.before.before.before.before.before.before.before.before.before.before.args in
+    let room = a.room.now in
+    let p = c.before.before.before.before.put in
+    let l = c.before.before.before.before.before.before.line-text in
+    let there = place-there a.judgement a.k room (omega (arith, c.before.before.before.before.before.before.before.before.line_count-lines.ensures, c.before.before.before.before.before.before.before.if-lines-k.false)) in (
+      ap placed (sym c.enum_told-1.given.1 ∙ p.ensures.0 ∙ ap (λ (x : List ℕ). put_answer x room) l.ensures) ∙ there.0,
+      p.ensures.1 ∙ ap (λ (x : List ℕ). put_room x room) l.ensures ∙ there.1,
+    )

@@ -1,0 +1,22 @@
+use Prim.Native.Nat.{ℕ}
+use Rattle.closing.specs.declared.NextStep.{NextStep}
+use Rattle.listing.specs.Words.{decimal}
+use Rattle.listing.specs.Lines.{step_words}
+use mathlib.Core.Path.{◌∙◌, ap}
+use Rattle.listing.specs.Texts.{text_of, with_all}
+use Rattle.listing.proofs.TextLaws.{first, then}
+use borrow.Author.Rules.{rules}
+use Rattle.listing.proofs.saga_line.Goals as goal
+
+pub returns : goal.returns
+returns c =
+    let owed = c.before.before.before.number-2.ensures ∙ ap (λ (n : ℕ). with_all (text_of c.before.before.before.before.blank.result) (decimal n)) c.before.before.before.before.before.before.before.before.before.before.outstanding-owed.ensures in
+    let step = c.before.step.ensures ∙ ap (λ (x : NextStep). with_all (text_of c.before.before.blank-2.result) (step_words x)) c.before.before.before.before.before.before.before.before.before.closing-step.ensures in
+    first _ c.before.before.before.before.before.before.before.before.empty.ensures
+    (then _ _ _ c.before.before.before.before.before.before.word.ensures
+    (then _ _ _ c.before.before.before.before.before.number.ensures
+    (then _ _ _ c.before.before.before.before.blank.ensures
+    (then _ _ _ owed
+    (then _ _ _ c.before.before.blank-2.ensures
+    (then _ _ _ step
+    c.end.ensures))))))

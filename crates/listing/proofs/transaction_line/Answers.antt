@@ -1,0 +1,17 @@
+use Rattle.rules.specs.declared.Phase.{Phase}
+use Rattle.listing.specs.Lines.{phase_word}
+use mathlib.Core.Path.{◌∙◌, ap}
+use Rattle.listing.specs.Texts.{text_of, with_all}
+use Rattle.listing.proofs.TextLaws.{first, then}
+use borrow.Author.Rules.{rules}
+use Rattle.listing.proofs.transaction_line.Goals as goal
+
+pub returns : goal.returns
+returns c =
+    let phase = c.before.phase.ensures ∙ ap (λ (x : Phase). with_all (text_of c.before.before.blank.result) (phase_word x)) c.before.before.before.before.before.before.before.phase_of-phase.ensures in
+    first _ c.before.before.before.before.before.before.empty.ensures
+    (then _ _ _ c.before.before.before.before.word.ensures
+    (then _ _ _ c.before.before.before.number.ensures
+    (then _ _ _ c.before.before.blank.ensures
+    (then _ _ _ phase
+    c.end.ensures))))

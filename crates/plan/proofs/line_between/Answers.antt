@@ -1,0 +1,7 @@
+use mathlib.Core.Path.{ap, ◌∙◌}
+use Rattle.plan.specs.Lines.{up_to_blanks}
+use borrow.Author.Rules.{rules}
+use Rattle.plan.proofs.line_between.Goals as goal
+
+pub returns : goal.returns
+returns c = c.up-to-blanks.ensures ∙ ap up_to_blanks c.before.past_blanks-front.ensures

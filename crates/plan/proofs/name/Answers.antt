@@ -1,0 +1,24 @@
+use native.Mathlib.Omega.{arith}
+use mathlib.Core.Path.{◌≡◌, ap, ◌∙◌}
+use Prim.Native.Nat.{ℕ, ◌-◌}
+use lib.ListN.{take, drop}
+use Rattle.plan.proofs.NameLaws.{name-between, begin-within}
+use borrow.Author.Rules.{rules}
+use Rattle.plan.proofs.name.Goals as goal
+
+pub slice_bounds-result-end : goal.slice_bounds-result-end
+slice_bounds-result-end c =
+    let a = c.before.before.before.before.before.args in
+    let b = begin-within a.names.now a.ends.now a.k in
+    omega (arith, b, c.before.before.name_begin-begin.ensures)
+
+pub returns-then-end-begin : goal.returns-then-end-begin
+returns-then-end-begin c =
+    let a = c.before.before.before.before.before.before.args in
+    let e : c.before.before.before.name_begin-begin.result-1 - c.before.before.before.name_begin-begin.result-1 ≡ c.before.before.name_end-end.result-1 - c.before.before.before.name_begin-begin.result-1 = omega arith in
+    ap (λ (n : ℕ). take n (drop c.before.before.before.name_begin-begin.result-1 a.names.now)) e ∙ name-between a.names.now a.ends.now a.k c.before.before.before.name_begin-begin.ensures c.before.before.name_end-end.ensures
+
+pub returns : goal.returns
+returns c =
+    let a = c.before.before.before.before.before.before.args in
+    name-between a.names.now a.ends.now a.k c.before.before.before.name_begin-begin.ensures c.before.before.name_end-end.ensures

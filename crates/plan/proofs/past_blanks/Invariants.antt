@@ -1,0 +1,15 @@
+use borrow.Author.Rules.{rules}
+use native.Mathlib.Omega.{arith}
+use mathlib.Core.Path.{◌≡◌, refl, sym, ◌∙◌}
+use Prim.Native.Nat.{◌-◌, ◌≤◌}
+use lib.ListN.{length, drop}
+use Rattle.plan.specs.Lines.{past_blanks}
+use Rattle.laws.proofs.Bools.{on-not, off-not}
+use Rattle.plan.proofs.TextLaws.{drop-whole, past_more, past_stop, past_end}
+use Rattle.plan.proofs.past_blanks.Given as goal
+
+abbrev pub invariant-loop-i : goal.invariant-loop-i
+invariant-loop-i l = (l.i ≤ length l.line) × (past_blanks l.around l.line ≡ past_blanks l.around (drop l.i l.line))
+
+abbrev pub decreases-loop-i : goal.decreases-loop-i
+decreases-loop-i l = length l.line - l.i

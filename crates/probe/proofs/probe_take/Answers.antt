@@ -1,0 +1,14 @@
+use mathlib.Core.Path.{ap, ◌∙◌}
+use Rattle.terms.specs.Refusals.{verdict_number}
+use Rattle.terms.specs.declared.Event.{Event}
+use Rattle.judge.specs.Judge.{judged}
+use Rattle.judge.specs.Lent.{state_in}
+use borrow.Author.Rules.{rules}
+use Rattle.probe.proofs.probe_take.Goals as goal
+
+pub returns : goal.returns
+returns c tables h =
+    let a = c.before.before.before.before.before.args in
+    c.number.ensures
+    ∙ ap verdict_number ((c.before.take-taken.ensures tables h).0
+    ∙ ap (λ (e : Event). (judged tables (state_in a.transactions.now a.ops.now a.n) e).verdict) c.before.before.before.before.event_by-event.ensures)

@@ -1,0 +1,17 @@
+use mathlib.Core.Path.{sym}
+use Prim.Native.Nat.{◌≤◌}
+use lib.ListN.{length}
+use lib.Seq.{length-take-le}
+use borrow.Author.Rules.{rules}
+use Rattle.input.proofs.FillingLaws.{whole-within}
+use Rattle.recordmove.proofs.tell_from.Goals as goal
+
+-- what was read is in the room
+within : (c : goal.In-Whole) → c.before.filled-1.given.0.0 ≤ length c.before.before.before.before.fill-filled.new.1.0
+within c = whole-within _ _ _ c.before.filled-1.given.1 c.before.before.before.before.fill-filled.ensures
+
+pub slice_bounds-text-end : goal.slice_bounds-text-end
+slice_bounds-text-end c = within c.before
+
+pub slice_bounds-tell-end : goal.slice_bounds-tell-end
+slice_bounds-tell-end c = sym (length-take-le _ _ (within c.before.before))

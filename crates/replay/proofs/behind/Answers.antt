@@ -1,0 +1,32 @@
+use borrow.Author.Rules.{rules}
+use native.Mathlib.Omega.{arith}
+use Prim.Native.Nat.{ℕ, ◌+◌, ◌-◌, ◌≤◌}
+use mathlib.Core.Path.{◌≡◌, sym, ◌∙◌, subst, subst⁻¹}
+use mathlib.Core.Logic.{⊎_elim}
+use Rattle.replay.proofs.CodeLaws.{BehindOf, behind-none, behind-in, behind-out}
+use Rattle.replay.proofs.behind.Goals as goal
+
+pub loop-a-init : goal.loop-a-init
+loop-a-init c = (omega arith, behind-none c.args.rows.now c.args.some)
+
+pub loop-a-smaller : goal.loop-a-smaller
+loop-a-smaller c = omega arith
+
+pub loop-a-preserved : goal.loop-a-preserved
+loop-a-preserved c =
+    let a = c.before.before.before.before.args in
+    let l = c.before.before.before.loop-a in
+    let test = c.before.member.ensures in (
+      omega arith,
+      ⊎_elim
+          (λ w. subst⁻¹ (BehindOf a.rows.now a.some (l.a + 1)) w.2 (behind-in a.rows.now a.some l.a l.set l.invariant.1 (sym test ∙ w.0.taken)))
+          (λ w. subst⁻¹ (BehindOf a.rows.now a.some (l.a + 1)) w.1 (behind-out a.rows.now a.some l.a l.set l.invariant.1 (sym test ∙ w.0.left)))
+          c.if-member.branch,
+    )
+
+pub returns : goal.returns
+returns c =
+    let a = c.before.before.args in
+    let l = c.before.loop-a in
+    let all : l.a ≡ 64 = omega arith in
+    subst (λ (n : ℕ). BehindOf a.rows.now a.some n l.set) all l.invariant.1

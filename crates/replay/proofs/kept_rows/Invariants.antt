@@ -1,0 +1,18 @@
+use borrow.Author.Rules.{rules}
+use native.Mathlib.Omega.{arith}
+use Prim.Native.Nat.{◌≤◌, ◌+◌, ◌-◌, ℕ}
+use mathlib.Core.Path.{◌≡◌, sym, subst, subst⁻¹}
+use lib.ListN.{replicate}
+use Rattle.ties.specs.Operations.{size, op_at}
+use Rattle.ties.specs.declared.Operation.{Operation}
+use Rattle.ties.specs.declared.Ops.{Ops}
+use Rattle.rows.specs.Rows.{Swept}
+use Rattle.rows.proofs.SweepLaws.{swept_none, swept_all}
+use Rattle.replay.specs.Replay.{kept, comes_before}
+use Rattle.replay.proofs.kept_rows.Given as goal
+
+abbrev pub invariant-loop-i : goal.invariant-loop-i
+invariant-loop-i l = (l.i ≤ size l.ops) × Swept (size l.ops) (kept_at l.ops) l.i l.users l.writers l.rows
+
+abbrev pub decreases-loop-i : goal.decreases-loop-i
+decreases-loop-i l = l.i

@@ -1,0 +1,19 @@
+use mathlib.Core.Path.{ap, ◌∙◌}
+use mathlib.Core.Bool.{Bool}
+use Rattle.rings.specs.Passes.{with_some}
+use borrow.Author.Rules.{rules}
+use Rattle.rings.proofs.Pass.begun.Goals as goal
+
+pub returns : goal.returns
+returns c =
+    let a = c.before.before.before.before.args in
+    let p = a.self in
+    λ i.
+    record {
+      mine = c.before.before.with-member.ensures i;
+      put = (c.with-some.ensures ∙ ap (λ (b : Bool). with_some b p.put a.q.object) c.before.is-write.ensures) i;
+      used = p.used;
+      written = p.written;
+      reached = p.reached;
+      missed = p.missed;
+    }

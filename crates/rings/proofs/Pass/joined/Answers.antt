@@ -1,0 +1,19 @@
+use mathlib.Core.Path.{ap, ◌∙◌}
+use mathlib.Core.Bool.{Bool}
+use Rattle.rings.specs.Passes.{with_some}
+use borrow.Author.Rules.{rules}
+use Rattle.rings.proofs.Pass.joined.Goals as goal
+
+pub returns : goal.returns
+returns c =
+    let a = c.before.before.before.before.before.before.args in
+    let p = a.self in
+    λ i.
+    record {
+      mine = p.mine;
+      put = p.put;
+      used = c.before.before.before.with-member.ensures i;
+      written = (c.before.with-some.ensures ∙ ap (λ (b : Bool). with_some b p.written a.q.object) c.before.before.is-write.ensures) i;
+      reached = c.with_member-2.ensures i;
+      missed = p.missed;
+    }

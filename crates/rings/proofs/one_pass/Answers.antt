@@ -1,0 +1,27 @@
+use borrow.Author.Rules.{rules}
+use native.Mathlib.Omega.{arith}
+use Prim.Native.Nat.{ℕ, ◌-◌, ◌≤◌}
+use mathlib.Core.Path.{◌≡◌, ap, ◌∙◌}
+use Rattle.rings.specs.Passes.{pass_to, read_at}
+use Rattle.rings.proofs.LentLaws.{pass-more}
+use Rattle.rings.proofs.one_pass.Goals as goal
+
+pub loop-i-init : goal.loop-i-init
+unfolding pass_to
+loop-i-init c = (omega arith, c.first-p.ensures)
+
+pub loop-i-smaller : goal.loop-i-smaller
+loop-i-smaller c = omega arith
+
+pub loop-i-preserved : goal.loop-i-preserved
+loop-i-preserved c =
+    let a = c.before.before.before.before.before.before.args in
+    let l = c.before.before.before.before.loop-i in
+    let q = c.before.op_in-q in
+    (omega arith, c.passed-next.ensures ∙ pass-more (read_at a.ops.now) a.start a.from l.i q.result l.p q.ensures l.invariant.1)
+
+pub returns : goal.returns
+returns c =
+    let a = c.before.before.before.args in
+    let l = c.before.loop-i in
+    l.invariant.1 ∙ ap (λ (k : ℕ). pass_to k (read_at a.ops.now) a.start a.from) (omega arith)

@@ -1,0 +1,13 @@
+use borrow.Author.Rules.{rules}
+use native.Mathlib.Omega.{arith}
+use Prim.Native.Nat.{ℕ, ◌-◌, ◌≤◌}
+use mathlib.Core.Path.{◌≡◌, ap, ◌∙◌}
+use Rattle.rings.specs.Passes.{pass_to, read_at}
+use Rattle.rings.proofs.LentLaws.{pass-more}
+use Rattle.rings.proofs.one_pass.Given as goal
+
+abbrev pub invariant-loop-i : goal.invariant-loop-i
+invariant-loop-i l = (l.i ≤ l.total) × (l.p ≡ pass_to l.i (read_at l.ops) l.start l.from)
+
+abbrev pub decreases-loop-i : goal.decreases-loop-i
+decreases-loop-i l = l.total - l.i

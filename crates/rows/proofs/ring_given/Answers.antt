@@ -1,0 +1,16 @@
+use mathlib.Core.Path.{ap, ◌∙◌}
+use mathlib.Core.Bool.{Bool}
+use Prim.Native.Nat.{ℕ}
+use Rattle.sets.specs.Sets.{mem}
+use Rattle.ties.specs.Ties.{ring_with}
+use Rattle.rows.proofs.LentLaws.{order-given}
+use borrow.Author.Rules.{rules}
+use Rattle.rows.proofs.ring_given.Goals as goal
+
+pub returns : goal.returns
+returns c =
+    let a = c.before.before.before.args in
+    let all = c.before.before.size-all in
+    let x = c.before.given_at-x in
+    c.ring-with.ensures
+    ∙ ap (λ (R : ℕ → ℕ → Bool). ring_with R (mem a.some) a.receiver) (order-given a.ops.now a.n all.result all.ensures a.q a.receiver x.result x.ensures)

@@ -1,0 +1,15 @@
+use Prim.Native.Nat.{ℕ}
+use mathlib.Core.Path.{ap, ◌∙◌}
+use mathlib.Core.Bool.{Bool}
+use Rattle.sets.specs.Sets.{mem}
+use Rattle.ties.specs.Ties.{ring_with}
+use Rattle.rows.proofs.LentLaws.{order-handed}
+use borrow.Author.Rules.{rules}
+use Rattle.rows.proofs.ring_handed.Goals as goal
+
+pub returns : goal.returns
+returns c =
+    let a = c.before.before.before.args in
+    let all = c.before.before.size-all in
+    c.ring-with.ensures
+    ∙ ap (λ (R : ℕ → ℕ → Bool). ring_with R (mem a.some) a.receiver) (order-handed a.ops.now a.n all.result all.ensures a.t a.receiver _)

@@ -1,0 +1,6 @@
+use borrow.Author.Rules.{rules}
+use mathlib.Core.Path.{sym, ◌∙◌}
+use Rattle.rows.proofs.with_writer.Goals as goal
+
+pub returns-then-is_write : goal.returns-then-is_write
+returns-then-is_write c = rw (sym c.before.before.is-write.ensures ∙ c.before.if-is_write.true) c.with-member.ensures

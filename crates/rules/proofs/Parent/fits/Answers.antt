@@ -1,0 +1,8 @@
+use native.Mathlib.Omega.{arith}
+use borrow.Author.Rules.{rules}
+use Rattle.rules.proofs.Parent.fits.Reads as reads
+use Rattle.rules.proofs.Parent.fits.Lts as lts
+use Rattle.rules.proofs.Parent.fits.Goals as goal
+
+pub returns-in-Under : goal.returns-in-Under
+returns-in-Under c = rw c.before.self-1.given.1

@@ -1,0 +1,60 @@
+use borrow.Author.Rules.{rules}
+use native.Mathlib.Omega.{arith}
+use Prim.Native.Nat.{ℕ, ◌-◌, ◌≤◌, min}
+use mathlib.Core.Path.{◌≡◌, sym, ap, ◌∙◌}
+use mathlib.Core.Bool.{and-false}
+use mathlib.Core.Logic.{⊎_elim}
+use Rattle.laws.proofs.Bools.{and_on, on-not}
+use Rattle.terms.specs.Limits.{most_transactions}
+use Rattle.sets.specs.Sets.{set_of}
+use Rattle.sets.proofs.SetLaws.{set-of-none, set-of-in, set-of-out}
+use Rattle.tables.specs.Sorts.{is_undo}
+use Rattle.sheet.specs.Sheet.{sort_at, owned_on}
+use Rattle.rules.specs.Lent.{transactions_in}
+use Rattle.rules.specs.Rules.{undo_on}
+use Rattle.rules.specs.States.{is_active, phase_of}
+use Rattle.rules.proofs.LentLaws.{phase-low}
+use Rattle.rules.proofs.RuleLaws.{nobody-active, undos-held}
+use Rattle.rules.proofs.active_undos.Goals as goal
+
+pub some_undo_active-requires : goal.some_undo_active-requires
+some_undo_active-requires c = omega (arith, c.count_in-owned.ensures)
+
+pub returns-then-not-some_undo_active : goal.returns-then-not-some_undo_active
+returns-then-not-some_undo_active c tables holds =
+    let a = c.before.before.before.before.args in
+    let n = c.before.before.count_in-owned in
+    let ts = transactions_in a.transactions.now in
+    nobody-active (undo_on a.sheet.now ts) n.result (sym c.before.some-undo-active.ensures ∙ on-not c.before.some-undo-active.result c.if-not-some_undo_active.true)
+    ∙ undos-held a.sheet.now ts n.result tables holds n.ensures
+
+pub loop-t-init : goal.loop-t-init
+loop-t-init c = (omega arith, sym (set-of-none _), c.before.before.count_in-owned.ensures)
+
+pub loop-t-preserved : goal.loop-t-preserved
+loop-t-preserved c =
+    let a = c.before.before.before.before.before.before.before.before.before.before.args in
+    let l = c.before.before.before.before.before.loop-t in
+    let ts = transactions_in a.transactions.now in
+    let f = undo_on a.sheet.now ts in
+    let active = c.before.is-active.ensures ∙ ap is_active (c.before.before.phase_in-phase.ensures ∙ sym (phase-low a.transactions.now l.t (omega (arith, l.invariant.2)))) in (
+      omega arith,
+      ⊎_elim
+          (λ w.
+          w.5 ∙ w.4.ensures
+          ∙ set-of-in f l.t l.set l.invariant.1
+          (and_on (is_undo (sort_at a.sheet.now l.t)) (is_active (phase_of ts l.t)) (sym (w.2.ensures ∙ ap is_undo w.1.ensures) ∙ w.3.taken) (sym active ∙ w.0.taken)))
+          (⊎_elim
+          (λ w. w.4 ∙ set-of-out f l.t l.set l.invariant.1 (rw (sym (w.2.ensures ∙ ap is_undo w.1.ensures) ∙ w.3.left)))
+          (λ w. w.1 ∙ set-of-out f l.t l.set l.invariant.1 (rw (sym active ∙ w.0.left, and-false (is_undo (sort_at a.sheet.now l.t))))))
+          c.if-is_active.branch,
+      l.invariant.2,
+    )
+
+pub returns : goal.returns
+returns c tables holds =
+    let a = c.before.before.before.before.before.before.args in
+    let l = c.before.loop-t in
+    let f = undo_on a.sheet.now (transactions_in a.transactions.now) in
+    l.invariant.1 ∙ ap (λ (n : ℕ). set_of n f) (omega arith)
+    ∙ undos-held a.sheet.now (transactions_in a.transactions.now) c.before.before.before.before.count_in-owned.result tables holds l.invariant.2

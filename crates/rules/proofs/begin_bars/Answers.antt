@@ -1,0 +1,5 @@
+use borrow.Author.Rules.{rules}
+use Rattle.rules.proofs.begin_bars.Goals as goal
+
+pub returns-in-Serial : goal.returns-in-Serial
+returns-in-Serial c = cc

@@ -1,0 +1,38 @@
+use borrow.Author.Rules.{rules}
+use native.Mathlib.Omega.{arith}
+use Prim.Native.Nat.{ℕ, ◌-◌, ◌≤◌}
+use mathlib.Core.Path.{◌≡◌, sym, ap, ap₂, ◌∙◌}
+use mathlib.Core.Bool.{◌&&◌, ◌||◌}
+use Rattle.laws.specs.Index.{any_below}
+use Rattle.laws.proofs.IndexLaws.{any_none, any-more}
+use Rattle.terms.specs.Limits.{most_transactions}
+use Rattle.rules.specs.Lent.{transactions_in}
+use Rattle.rules.specs.Rules.{active_child, child_active}
+use Rattle.rules.specs.States.{is_active, is_under}
+use Rattle.rules.proofs.LentLaws.{parent-low, phase-low}
+use Rattle.rules.proofs.child_active.Reads as reads
+use Rattle.rules.proofs.child_active.Lts as lts
+use Rattle.rules.proofs.Parent.is_under.Reads as is-under-reads
+use Rattle.rules.proofs.Phase.is_active.Reads as is-active-reads
+use Rattle.rules.proofs.parent_in.Reads as parent-in-reads
+use Rattle.rules.proofs.phase_in.Reads as phase-in-reads
+use Rattle.rules.proofs.child_active.Goals as goal
+
+pub loop-t-init : goal.loop-t-init
+loop-t-init c = (omega arith, sym (any_none _))
+
+pub loop-t-preserved : goal.loop-t-preserved
+loop-t-preserved c =
+    let a = c.before.before.before.before.before.before.before.before.args in
+    let l = c.before.before.before.before.before.before.before.loop-t in
+    let ts = transactions_in a.transactions.now in
+    let under = c.before.is-under.ensures ∙ ap (is_under a.m) (c.before.before.before.before.parent_in_lem.ensures ∙ sym (parent-low a.transactions.now l.t (omega arith))) in
+    let active = c.is-active.ensures ∙ ap is_active (c.before.before.phase_in-phase.ensures ∙ sym (phase-low a.transactions.now l.t (omega arith))) in
+    (omega arith, ap₂ ◌||◌ l.invariant.1 (ap₂ ◌&&◌ under active) ∙ sym (any-more l.t (active_child ts a.m)))
+
+pub returns : goal.returns
+unfolding child_active
+returns c =
+    let a = c.before.before.args in
+    let l = c.before.loop-t in
+    l.invariant.1 ∙ ap (λ (n : ℕ). any_below n (active_child (transactions_in a.transactions.now) a.m)) (omega arith)

@@ -1,0 +1,13 @@
+use mathlib.Core.Path.{sym, ap, ◌∙◌}
+use mathlib.Core.Bool.{not}
+use Rattle.rules.specs.Lent.{transactions_in}
+use Rattle.rules.specs.Rules.{commit_barred}
+use Rattle.rules.specs.States.{is_active, is_committed}
+use borrow.Author.Rules.{rules}
+use Rattle.rules.proofs.commit_barred.Goals as goal
+
+pub returns-in-Saga : goal.returns-in-Saga
+returns-in-Saga c = ap not (c.is-committed.ensures ∙ ap is_committed c.before.own_at-last.ensures) ∙ ap (commit_barred (transactions_in c.before.before.before.before.before.args.transactions.now)) (sym c.before.before.before.sort-1.given.1)
+
+pub returns-in-Step : goal.returns-in-Step
+returns-in-Step c = ap not (c.is-active.ensures ∙ ap is_active c.before.own_at-s.ensures) ∙ ap (commit_barred (transactions_in c.before.before.before.before.before.args.transactions.now)) (sym c.before.before.before.sort-in-Step-1.given.1)

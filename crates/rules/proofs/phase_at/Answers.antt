@@ -1,0 +1,11 @@
+use native.Mathlib.Omega.{arith}
+use mathlib.Core.Path.{sym, ◌∙◌}
+use Rattle.rules.proofs.LentLaws.{phase-low, phase-past}
+use borrow.Author.Rules.{rules}
+use Rattle.rules.proofs.phase_at.Goals as goal
+
+pub returns-then-t-ge-TRANSACTIONS : goal.returns-then-t-ge-TRANSACTIONS
+returns-then-t-ge-TRANSACTIONS c = sym (phase-past c.before.args.transactions.now c.before.args.t (omega arith))
+
+pub returns : goal.returns
+returns c = let a = c.before.before.before.args in c.phase-in.ensures ∙ sym (phase-low a.transactions.now a.t (omega arith))

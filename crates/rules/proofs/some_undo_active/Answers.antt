@@ -1,0 +1,31 @@
+use native.Mathlib.Omega.{arith}
+use Prim.Native.Nat.{ℕ, ◌-◌, ◌≤◌}
+use mathlib.Core.Path.{◌≡◌, sym, ap, ap₂, ◌∙◌}
+use mathlib.Core.Bool.{◌&&◌, ◌||◌}
+use Rattle.laws.specs.Index.{any_below}
+use Rattle.laws.proofs.IndexLaws.{any_none, any-more}
+use Rattle.tables.specs.Sorts.{is_undo}
+use Rattle.rules.specs.Lent.{transactions_in}
+use Rattle.rules.specs.Rules.{undo_on}
+use Rattle.rules.specs.States.{is_active}
+use Rattle.rules.proofs.LentLaws.{phase-low}
+use borrow.Author.Rules.{rules}
+use Rattle.rules.proofs.some_undo_active.Goals as goal
+
+pub loop-t-init : goal.loop-t-init
+loop-t-init c = (omega arith, sym (any_none _))
+
+pub loop-t-preserved : goal.loop-t-preserved
+loop-t-preserved c =
+    let a = c.before.before.before.before.before.before.before.args in
+    let l = c.before.before.before.before.before.before.loop-t in
+    let ts = transactions_in a.transactions.now in
+    let undo = c.before.is-undo.ensures ∙ ap is_undo c.before.before.before.before.sort_at-sort.ensures in
+    let active = c.is-active.ensures ∙ ap is_active (c.before.before.phase_in-phase.ensures ∙ sym (phase-low a.transactions.now l.t (omega arith))) in
+    (omega arith, ap₂ ◌||◌ l.invariant.1 (ap₂ ◌&&◌ undo active) ∙ sym (any-more l.t (undo_on a.sheet.now ts)))
+
+pub returns : goal.returns
+returns c =
+    let a = c.before.before.args in
+    let l = c.before.loop-t in
+    l.invariant.1 ∙ ap (λ (n : ℕ). any_below n (undo_on a.sheet.now (transactions_in a.transactions.now))) (omega arith)

@@ -1,0 +1,26 @@
+use native.Mathlib.Omega.{arith}
+use Prim.Native.Nat.{ℕ}
+use mathlib.Core.Path.{ap, ◌∙◌}
+use lib.ListN.{set}
+use Rattle.rules.specs.Lent.{transactions_in}
+use Rattle.rules.proofs.LentLaws.{spawned-in, spawned-past, spawned-none}
+use borrow.Author.Rules.{rules}
+use Rattle.rules.proofs.spawns.Reads as reads
+use Rattle.rules.proofs.spawns.Lts as lts
+use Rattle.rules.proofs.under_in.Reads as under-in-reads
+use Rattle.rules.proofs.spawns.Goals as goal
+
+pub under_in-requires : goal.under_in-requires
+under_in-requires c = omega arith
+
+pub returns-then-t-lt-TRANSACTIONS : goal.returns-then-t-lt-TRANSACTIONS
+returns-then-t-lt-TRANSACTIONS c =
+    let a = c.before.before.before.before.args in
+    ap (λ (x : ℕ). transactions_in (set a.transactions.now a.t x)) c.under-in.ensures
+    ∙ spawned-in a.transactions.now a.m a.t (omega arith) (omega arith)
+
+pub returns-else-t-lt-TRANSACTIONS : goal.returns-else-t-lt-TRANSACTIONS
+returns-else-t-lt-TRANSACTIONS c = let a = c.before.before.args in spawned-past a.transactions.now a.m a.t (omega arith) (omega arith)
+
+pub returns-else-m-lt-TRANSACTIONS : goal.returns-else-m-lt-TRANSACTIONS
+returns-else-m-lt-TRANSACTIONS c = let a = c.before.args in spawned-none a.transactions.now a.m a.t (omega arith)

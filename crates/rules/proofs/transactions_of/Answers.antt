@@ -1,0 +1,41 @@
+use borrow.Author.Rules.{rules}
+use native.Mathlib.Omega.{arith}
+use Prim.Native.Nat.{◌-◌, ◌≤◌}
+use mathlib.Core.Path.{◌≡◌, refl, sym, ap, ap₂, ◌∙◌}
+use lib.ListN.{length, take, length-set}
+use Rattle.laws.proofs.ListLaws.{copied_more, copied_all}
+use Rattle.terms.specs.Limits.{most_transactions}
+use Rattle.rules.specs.Lent.{transactions_in}
+use Rattle.rules.specs.States.{idle}
+use Rattle.rules.specs.declared.Parent.{Parent}
+use Rattle.rules.specs.declared.Phase.{Phase}
+use Rattle.rules.specs.declared.Transaction.{Transaction}
+use Rattle.rules.proofs.LentLaws.{at_low}
+use Rattle.rules.proofs.transactions_of.Reads as reads
+use Rattle.rules.proofs.transactions_of.Lts as lts
+use Rattle.rules.proofs.Transaction.idle.Reads as idle-reads
+use Rattle.rules.proofs.parent_in.Reads as parent-in-reads
+use Rattle.rules.proofs.phase_in.Reads as phase-in-reads
+use Rattle.rules.proofs.transactions_of.Goals as goal
+
+pub loop-t-init : goal.loop-t-init
+loop-t-init c = (omega arith, refl, λ e. refl)
+
+pub loop-t-preserved : goal.loop-t-preserved
+loop-t-preserved c =
+    let a = c.before.before.before.before.before.before.before.args in
+    let l = c.before.before.before.before.before.loop-t in
+    let ts = transactions_in a.transactions.now in
+    let x : Transaction = record { phase = c.before.before.phase_in-phase.result; parent = c.parent_in_lem.result } in (
+      omega arith,
+      length-set l.all l.t x ∙ l.invariant.1,
+      λ e.
+          copied_more ts idle l.t l.all x (l.invariant.2 e) (omega arith) (omega arith)
+          (ap₂ (λ (p : Phase) (m : Parent). record { phase = p; parent = m }) c.before.before.phase_in-phase.ensures c.parent_in_lem.ensures ∙ sym (at_low a.transactions.now l.t (omega arith))),
+    )
+
+pub returns : goal.returns
+returns c =
+    let a = c.before.before.before.args in
+    let l = c.before.loop-t in
+    λ e. copied_all (transactions_in a.transactions.now) idle most_transactions l.t l.all (l.invariant.2 e) (omega arith) l.invariant.1 e

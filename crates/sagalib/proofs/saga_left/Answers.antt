@@ -1,0 +1,8 @@
+use mathlib.Core.Path.{ap, ◌∙◌}
+use Rattle.left.specs.Left.{left_in}
+use Rattle.onward.specs.declared.Judgement.{Judgement}
+use borrow.Author.Rules.{rules}
+use Rattle.sagalib.proofs.saga_left.Goals as goal
+
+pub returns : goal.returns
+returns c = c.left-of.ensures ∙ ap (λ (r : Judgement). left_in r.tables-1 r.state-1) c.before.before.before.judged-read.ensures

@@ -1,0 +1,14 @@
+use mathlib.Core.Path.{refl}
+use Rattle.desk.specs.Desk.{desk_of}
+use Rattle.desk.specs.Ways.{judged}
+use Rattle.sagalib.proofs.NumberLaws.{opened-is}
+use borrow.Author.Rules.{rules}
+use Rattle.sagalib.proofs.saga_lent_open.Goals as goal
+
+pub returns : goal.returns
+returns c =
+    let a = c.before.before.before.before.before.before.before.before.before.before.before.before.before.args in
+    let o = c.before.before.before.before.before.open-on in
+    let d = desk_of o.new.1.1.0 o.new.1.1.1.0 o.new.1.1.1.1.0 o.new.1.1.1.1.1.0 o.new.1.1.1.1.1.1.0
+    o.new.1.1.1.1.1.1.1.0 in
+    (opened-is (judged a.way a.book.now) d o.ensures a.way a.book.now refl, o.ensures)

@@ -1,0 +1,11 @@
+use mathlib.Core.Path.{ap, ◌∙◌}
+use Rattle.sagalib.specs.Numbers.{mend_numbers, mended_numbers}
+use borrow.Author.Rules.{rules}
+use Rattle.sagalib.proofs.saga_mend.Goals as goal
+
+pub returns : goal.returns
+returns c =
+    let told = c.before.before.before.before.mend-mending.ensures in (
+      c.before.mend_numbers-numbers.ensures ∙ ap mend_numbers told.0,
+      (c.mended_numbers-which.ensures ∙ ap mended_numbers told.0, told.1),
+    )

@@ -1,0 +1,7 @@
+use mathlib.Core.Path.{ap}
+use lib.ListN.{length}
+use borrow.Author.Rules.{rules}
+use Rattle.sagalib.proofs.saga_opening.Goals as goal
+
+pub returns : goal.returns
+returns c = ap length c.opening-opening.ensures

@@ -1,0 +1,8 @@
+use mathlib.Core.Path.{ap, ◌∙◌}
+use Rattle.totals.specs.Figures.{share_of}
+use Rattle.sagalib.specs.Numbers.{share_numbers}
+use borrow.Author.Rules.{rules}
+use Rattle.sagalib.proofs.saga_share.Goals as goal
+
+pub returns : goal.returns
+returns c = ap share_numbers (c.before.share-lowest.ensures ∙ ap share_of c.before.before.totals_in-counted.ensures)

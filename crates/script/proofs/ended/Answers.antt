@@ -1,0 +1,16 @@
+use native.Mathlib.Omega.{arith}
+use mathlib.Core.Path.{◌≡◌, refl, sym, ap, ap₂, ◌∙◌}
+use Prim.Native.Nat.{ℕ, ◌+◌, ◌-◌, ◌≤◌, ◌<◌}
+use lib.ListN.{length, get_or, take, drop}
+use Rattle.script.proofs.ByteLaws.{ended_by, remark-none, remark-some}
+use borrow.Author.Rules.{rules}
+use Rattle.script.proofs.ended.Reads as reads
+use Rattle.script.proofs.ended.Lts as lts
+use Rattle.script.proofs.past_blanks.Reads as past-blanks-reads
+use Rattle.script.proofs.ended.Goals as goal
+
+pub returns-then-line-next : goal.returns-then-line-next
+returns-then-line-next c = ended_by _ _ _ c.before.past_blanks-next.ensures (remark-none c.before.before.before.args.line.now c.before.past_blanks-next.result (omega arith))
+
+pub returns : goal.returns
+returns c = ended_by _ _ _ c.before.before.past_blanks-next.ensures (remark-some c.before.before.before.before.args.line.now c.before.before.past_blanks-next.result (omega arith))

@@ -1,0 +1,15 @@
+use lib.ListN.{get_or-eq_default}
+use native.Mathlib.Omega.{arith}
+use mathlib.Core.Path.{◌≡◌, refl, sym, ap, ap₂, ◌∙◌}
+use Prim.Native.Nat.{ℕ, ◌+◌, ◌-◌, ◌≤◌, ◌<◌}
+use lib.ListN.{length, get_or, take, drop}
+use borrow.Author.Rules.{rules}
+use Rattle.script.proofs.field.Reads as reads
+use Rattle.script.proofs.field.Lts as lts
+use Rattle.script.proofs.field.Goals as goal
+
+pub returns-then-fields-n : goal.returns-then-fields-n
+returns-then-fields-n c = sym (get_or-eq_default c.before.args.fields.now 0 (omega arith))
+
+pub overflow_cast-result : goal.overflow_cast-result
+overflow_cast-result c = omega (arith, c.shared_slice_known-1.given c.before.before.args.n)

@@ -1,0 +1,28 @@
+use borrow.Author.Rules.{rules}
+use native.Mathlib.Omega.{arith}
+use mathlib.Core.Path.{◌≡◌, refl, sym, ap, ap₂, ◌∙◌}
+use Prim.Native.Nat.{ℕ, ◌+◌, ◌-◌, ◌≤◌, ◌<◌}
+use lib.ListN.{length, get_or, take, drop}
+use Rattle.laws.proofs.Bools.{on-not, off-not}
+use Rattle.script.specs.Forms.{fits}
+use Rattle.script.proofs.FormLaws.{fits-none, fits_not, fits_more, takes-le}
+use Rattle.script.proofs.fits.Reads as reads
+use Rattle.script.proofs.fits.Lts as lts
+use Rattle.script.proofs.is_own.Reads as is-own-reads
+use Rattle.script.proofs.takes.Reads as takes-reads
+use Rattle.script.proofs.fits.Goals as goal
+
+pub loop-i-init : goal.loop-i-init
+loop-i-init c = (omega arith, omega arith, refl)
+
+pub returns-then-not-is_own : goal.returns-then-not-is_own
+returns-then-not-is_own c = sym (c.before.before.before.before.loop-i.invariant.2 ∙ fits_not c.before.before.before.before.before.before.before.args.form.now c.before.before.before.before.before.before.before.args.fields.now c.before.before.before.before.loop-i.i c.before.before.before.before.loop-i.n (omega arith) (sym c.before.is-own.ensures ∙ on-not c.before.is-own.result c.if-not-is_own.true))
+
+pub overflow_add-n : goal.overflow_add-n
+overflow_add-n c = let t = takes-le (get_or c.before.before.before.before.before.before.before.before.args.form.now c.before.before.before.before.before.loop-i.i 0) in omega (arith, c.takes-n.ensures)
+
+pub loop-i-preserved : goal.loop-i-preserved
+loop-i-preserved c = let t = takes-le (get_or c.before.before.before.before.before.before.before.before.args.form.now c.before.before.before.before.before.loop-i.i 0) in (omega (arith, c.takes-n.ensures), omega arith, c.before.before.before.before.before.loop-i.invariant.2 ∙ fits_more c.before.before.before.before.before.before.before.before.args.form.now c.before.before.before.before.before.before.before.before.args.fields.now c.before.before.before.before.before.loop-i.i c.before.before.before.before.before.loop-i.n (omega arith) c.takes-n.result c.takes-n.ensures (sym c.before.before.is-own.ensures ∙ off-not c.before.before.is-own.result c.before.if-not-is_own.false))
+
+pub returns : goal.returns
+returns c = sym (c.before.loop-i.invariant.2 ∙ fits-none c.before.before.before.before.args.form.now c.before.before.before.before.args.fields.now c.before.loop-i.i c.before.loop-i.n (omega arith))

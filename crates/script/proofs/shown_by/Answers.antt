@@ -1,0 +1,53 @@
+use Rattle.script.proofs.FormLaws.{takes-le, count-more, count_none, shown-more, shown-none}
+use Rattle.listing.proofs.TextLaws.{all_none}
+use Rattle.script.specs.Forms.{piece_of}
+use borrow.Author.Rules.{rules}
+use native.Mathlib.Omega.{arith}
+use mathlib.Core.Path.{◌≡◌, refl, sym, ap, ap₂, ◌∙◌}
+use Prim.Native.Nat.{ℕ, ◌+◌, ◌-◌, ◌≤◌, ◌<◌}
+use lib.ListN.{length, get_or, take, drop}
+use mathlib.Core.List.{List, [], ◌∷◌, ◌++◌}
+use Rattle.listing.specs.Words.{line_feed}
+use Rattle.listing.specs.Texts.{text_of, with_all}
+use Rattle.script.specs.Forms.{count_of, shown}
+use Rattle.script.proofs.shown_by.Reads as reads
+use Rattle.script.proofs.shown_by.Lts as lts
+use Rattle.listing.proofs.Text.empty.Reads as empty-reads
+use Rattle.listing.proofs.Text.end.Reads as end_reads
+use Rattle.script.proofs.allows.Reads as allows-reads
+use Rattle.script.proofs.field.Reads as field-reads
+use Rattle.script.proofs.takes.Reads as takes-reads
+use Rattle.script.proofs.with_piece.Reads as with-piece-reads
+use Rattle.script.proofs.shown_by.Goals as goal
+
+pub loop-i-init : goal.loop-i-init
+loop-i-init c = (omega arith, omega arith, omega arith, ap (λ (t : List ℕ). with_all t (shown c.before.before.before.args.form.now c.before.before.before.args.fields.now ++ line_feed)) (sym c.empty-text.ensures))
+
+pub overflow_add-n : goal.overflow_add-n
+overflow_add-n c = let t = takes-le (get_or c.before.before.before.before.before.before.before.before.before.args.form.now c.before.before.before.before.before.loop-i.i 0) in omega (arith, c.takes-n.ensures)
+
+pub loop-i-preserved : goal.loop-i-preserved
+loop-i-preserved c =
+    let form = c.before.before.before.before.before.before.before.before.before.args.form.now in
+    let fs = c.before.before.before.before.before.before.before.before.before.args.fields.now in
+    let l = c.before.before.before.before.before.loop-i in
+    let t = takes-le (get_or form l.i 0) in
+    let n = count-more form fs l.i l.n (omega arith) c.takes-n.result c.takes-n.ensures in (
+      omega (arith, c.takes-n.ensures),
+      omega arith,
+      omega (arith, l.invariant.2, n),
+      l.invariant.3
+          ∙ shown-more form fs l.i l.n (omega arith) c.takes-n.result (text_of l.text) c.takes-n.ensures
+          ∙ ap (λ (u : List ℕ). with_all u (shown (drop (l.i + 1) form) (drop (l.n + c.takes-n.result) fs) ++ line_feed))
+          (ap (λ (v : ℕ). with_all (text_of l.text) (piece_of (get_or form l.i 0) v)) (sym c.before.before.field-v.ensures) ∙ sym c.before.with_piece-longer.ensures),
+    )
+
+pub returns : goal.returns
+returns c =
+    let form = c.before.before.before.before.before.before.before.args.form.now in
+    let fs = c.before.before.before.before.before.before.before.args.fields.now in
+    let l = c.before.before.before.loop-i in
+    let n = count_none form fs l.i l.n (omega arith) in (
+      c.before.end-whole.ensures ∙ sym (l.invariant.3 ∙ ap (λ (u : List ℕ). with_all (text_of l.text) (u ++ line_feed)) (shown-none form fs l.i l.n (omega arith))),
+      (omega (arith, l.invariant.2, n), c.allows-loose.ensures),
+    )

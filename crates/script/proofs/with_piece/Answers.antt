@@ -1,0 +1,29 @@
+use native.Mathlib.Omega.{arith}
+use mathlib.Core.Path.{◌≡◌, refl, sym, ap, ap₂, ◌∙◌}
+use Prim.Native.Nat.{ℕ, ◌+◌, ◌-◌, ◌≤◌, ◌<◌}
+use lib.ListN.{length, get_or, take, drop}
+use Rattle.listing.specs.Texts.{text_of, with_all}
+use Rattle.script.proofs.ByteLaws.{piece-as}
+use Rattle.listing.proofs.TextLaws.{all_none, all_one}
+use borrow.Author.Rules.{rules}
+use Rattle.script.proofs.with_piece.Reads as reads
+use Rattle.script.proofs.with_piece.Lts as lts
+use Rattle.listing.proofs.Text.byte.Reads as byte-Reads
+use Rattle.listing.proofs.Text.number.Reads as number-reads
+use Rattle.script.proofs.sign_of.Reads as sign-of-reads
+use Rattle.script.proofs.with_piece.Goals as goal
+
+pub returns-in-Fixed : goal.returns-in-Fixed
+returns-in-Fixed c = sym (all_none _) ∙ ap (with_all (text_of c.before.before.before.args.text)) (piece-as _ _ _ c.before.before.sign_of-sign.ensures c.enum_told-1.given.1 _)
+
+pub returns-in-Number : goal.returns-in-Number
+returns-in-Number c = c.number.ensures ∙ ap (with_all (text_of c.before.before.before.before.args.text)) (piece-as _ _ _ c.before.before.before.sign_of-sign.ensures c.before.enum_told-in-Number-1.given.1 _)
+
+pub returns-in-Blank : goal.returns-in-Blank
+returns-in-Blank c = c.byte.ensures ∙ sym (all_one _ _) ∙ ap (with_all (text_of c.before.before.before.before.args.text)) (piece-as _ _ _ c.before.before.before.sign_of-sign.ensures c.before.enum_told-in-Blank-1.given.1 c.before.before.before.before.args.v)
+
+pub returns-in-Letter : goal.returns-in-Letter
+returns-in-Letter c = c.byte-in-Letter.ensures ∙ sym (all_one _ _) ∙ ap (with_all (text_of c.before.before.before.before.args.text)) (piece-as _ _ _ c.before.before.before.sign_of-sign.ensures c.before.enum_told-in-Letter-1.given.1 c.before.before.before.before.args.v)
+
+pub returns-in-Nothing : goal.returns-in-Nothing
+returns-in-Nothing c = sym (all_none _) ∙ ap (with_all (text_of c.before.before.before.args.text)) (piece-as _ _ _ c.before.before.sign_of-sign.ensures c.enum_told-in-Nothing-1.given.1 c.before.before.before.args.v)

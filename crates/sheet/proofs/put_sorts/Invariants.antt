@@ -1,0 +1,23 @@
+use borrow.Author.Rules.{rules}
+use native.Mathlib.Omega.{arith}
+use mir.Val.{Fits}
+use mir.Syntax.{w8}
+use Prim.Native.Nat.{ℕ, ◌+◌, ◌-◌, ◌≤◌, min}
+use mathlib.Core.Path.{◌≡◌, ◌∙◌, subst⁻¹}
+use lib.ListN.{length, get_or, length-set}
+use Rattle.terms.specs.Limits.{most_sagas, most_transactions}
+use Rattle.tables.specs.Sorts.{number_of_all}
+use Rattle.tables.proofs.SortLaws.{Passed, passed_none, passed_here, passed-more}
+use Rattle.sheet.specs.Sheet.{SmallSort}
+use Rattle.sheet.proofs.CodeLaws.{sort-small}
+use Rattle.sheet.proofs.HeldLaws.{passed-rest, SortsTo, sorts-more}
+use Rattle.sheet.proofs.put_sorts.Given as goal
+
+abbrev pub invariant-loop-t : goal.invariant-loop-t
+invariant-loop-t l =
+    (l.t ≤ most_transactions) × (l.i ≤ l.plain) × (l.plain ≡ min l.sagas.sagas most_sagas) × (l.first ≤ l.t) × (length l.sheet ≡ 195)
+    × ((u : ℕ) → l.t ≤ u → Passed l.sagas u l.i l.first)
+    × (number_of_all l.sagas ≤ most_transactions → SortsTo l.sagas l.t l.sheet)
+
+abbrev pub decreases-loop-t : goal.decreases-loop-t
+decreases-loop-t l = (most_transactions - l.t) + (l.plain - l.i)

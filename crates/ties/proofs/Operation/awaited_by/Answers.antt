@@ -1,0 +1,5 @@
+use borrow.Author.Rules.{rules}
+use Rattle.ties.proofs.Operation.awaited_by.Goals as goal
+
+pub returns : goal.returns
+returns c = rw (c.before.is-active.ensures, c.conflicts.ensures)

@@ -1,0 +1,5 @@
+use borrow.Author.Rules.{rules}
+use Rattle.ties.proofs.Operation.conflicts.Goals as goal
+
+pub returns : goal.returns
+returns c = rw (c.before.is-write.ensures, c.is_write-2.ensures)

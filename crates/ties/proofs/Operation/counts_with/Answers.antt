@@ -1,0 +1,7 @@
+use Rattle.ties.specs.Ties.{counts}
+use borrow.Author.Rules.{rules}
+use Rattle.ties.proofs.Operation.counts_with.Goals as goal
+
+pub returns : goal.returns
+unfolding counts
+returns c = rw (c.before.before.conflicts.ensures, c.before.is-gone.ensures, c.is_gone-2.ensures)

@@ -1,0 +1,6 @@
+use mathlib.Core.Path.{sym, ◌∙◌}
+use borrow.Author.Rules.{rules}
+use Rattle.ties.proofs.Operation.ended_alone.Goals as goal
+
+pub returns-then-is_active : goal.returns-then-is_active
+returns-then-is_active c = rw (sym c.before.before.is-active.ensures ∙ c.before.if-is_active.true) c.ended-as.ensures

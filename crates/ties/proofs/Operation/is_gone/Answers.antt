@@ -1,0 +1,5 @@
+use borrow.Author.Rules.{rules}
+use Rattle.ties.proofs.Operation.is_gone.Goals as goal
+
+pub returns : goal.returns
+returns c = rw c.is-aborted.ensures

@@ -1,0 +1,7 @@
+use Rattle.ties.specs.Ties.{tied_to}
+use borrow.Author.Rules.{rules}
+use Rattle.ties.proofs.Operation.tied_to.Goals as goal
+
+pub returns : goal.returns
+unfolding tied_to
+returns c = rw (c.before.conflicts.ensures, c.is-aborted.ensures)

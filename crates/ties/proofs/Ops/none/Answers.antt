@@ -1,0 +1,7 @@
+use lib.ListN.{replicate}
+use Rattle.ties.specs.Operations.{most_operations}
+use borrow.Author.Rules.{rules}
+use Rattle.ties.proofs.Ops.none.Goals as goal
+
+pub returns : goal.returns
+returns c = λ i. record { all = replicate most_operations (c.none-none.ensures i); count = 0 }

@@ -1,0 +1,46 @@
+use borrow.Author.Rules.{rules}
+use native.Mathlib.Omega.{arith}
+use Prim.Native.Nat.{ℕ, ◌-◌, ◌≤◌}
+use mathlib.Core.Path.{◌≡◌, sym, ap, ◌∙◌}
+use mathlib.Core.Bool.{Bool, true}
+use mathlib.Core.List.{List, []}
+use mathlib.Core.Logic.{⊎_elim}
+use lib.ListN.{get_or, set}
+use Rattle.laws.specs.Index.{grid}
+use Rattle.terms.specs.Limits.{most_transactions}
+use Rattle.ties.specs.Operations.{op_at}
+use Rattle.ties.proofs.TieLaws.{counts-small}
+use Rattle.ties.proofs.TableLaws.{before_by, into, by-none, by_all, into-none, into-all, into-mark, into-skip}
+use Rattle.ties.proofs.Ops.pairs.Goals as goal
+
+pub loop-j-init : goal.loop-j-init
+loop-j-init c = (omega arith, by-none c.before.args.t1)
+
+pub loop-i-init : goal.loop-i-init
+loop-i-init c = (omega arith, c.before.before.before.loop-j.invariant.1 ∙ into-none c.before.before.before.before.before.args.t1 c.before.before.before.loop-j.j)
+
+pub loop-i-preserved : goal.loop-i-preserved
+loop-i-preserved c =
+    let at = c.before.before.before.before in
+    let ops = at.before.before.before.before.before.before.args.t1 in
+    let j = at.before.before.before.before.loop-j.j in
+    let i = at.loop-i.i in
+    let told = c.before.Counts-with.ensures in (
+      omega arith,
+      ⊎_elim
+          (λ w. w.2
+          ∙ ap (λ (l : List (List Bool)). set l (op_at ops i).responsible (set (get_or l (op_at ops i).responsible []) (op_at ops j).responsible true)) at.loop-i.invariant.1
+          ∙ into-mark ops j i (sym told ∙ w.0.taken))
+          (λ w. w.1 ∙ at.loop-i.invariant.1 ∙ into-skip ops j i (sym told ∙ w.0.left))
+          c.if-counts_with.branch,
+    )
+
+pub loop-j-preserved : goal.loop-j-preserved
+loop-j-preserved c =
+    let ops = c.before.before.before.before.before.before.before.args.t1 in
+    let j = c.before.before.before.before.before.loop-j.j in
+    let there : c.before.loop-i.i ≡ j = omega arith in
+    (omega arith, c.before.loop-i.invariant.1 ∙ ap (λ (n : ℕ). grid most_transactions (into ops j n)) there ∙ into-all ops j)
+
+pub returns : goal.returns
+returns c = c.before.loop-j.invariant.1 ∙ by_all _ _ (omega arith)

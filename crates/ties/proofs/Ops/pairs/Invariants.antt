@@ -1,0 +1,28 @@
+use borrow.Author.Rules.{rules}
+use native.Mathlib.Omega.{arith}
+use Prim.Native.Nat.{ℕ, ◌-◌, ◌≤◌}
+use mathlib.Core.Path.{◌≡◌, sym, ap, ◌∙◌}
+use mathlib.Core.Bool.{Bool, true}
+use mathlib.Core.List.{List, []}
+use mathlib.Core.Logic.{⊎_elim}
+use lib.ListN.{get_or, set}
+use Rattle.laws.specs.Index.{grid}
+use Rattle.terms.specs.Limits.{most_transactions}
+use Rattle.ties.specs.Operations.{op_at}
+use Rattle.ties.proofs.TieLaws.{counts-small}
+use Rattle.ties.proofs.TableLaws.{before_by, into, by-none, by_all, into-none, into-all, into-mark, into-skip}
+use Rattle.ties.proofs.Ops.pairs.Given as goal
+
+-- the ties among the first j operations, and of the first i to operation j, are marked
+abbrev pub invariant-loop-i : goal.invariant-loop-i
+invariant-loop-i l = (l.i ≤ l.q) × (l.table ≡ grid most_transactions (into l.self l.q l.i))
+
+abbrev pub decreases-loop-i : goal.decreases-loop-i
+decreases-loop-i l = l.q - l.i
+
+-- the ties among the first j operations are marked
+abbrev pub invariant-loop-j : goal.invariant-loop-j
+invariant-loop-j l = (l.j ≤ l.n) × (l.table ≡ grid most_transactions (before_by l.self l.j))
+
+abbrev pub decreases-loop-j : goal.decreases-loop-j
+decreases-loop-j l = l.n - l.j

@@ -1,0 +1,43 @@
+use native.Mathlib.Omega.{arith}
+use Prim.Native.Nat.{◌+◌}
+use mathlib.Core.Path.{ap, ◌∙◌, subst⁻¹}
+use Rattle.laws.specs.Index.{one}
+use Rattle.totals.specs.Figures.{grown, with_book}
+use Rattle.totals.specs.declared.SagaCounts.{SagaCounts}
+use Rattle.totals.proofs.FiguresLaws.{Small, counts-small, one-small}
+use borrow.Author.Rules.{rules}
+use Rattle.totals.proofs.with_book.Goals as goal
+
+-- what the book adds
+small : (c : goal.After-counts_of-counts) → Small c.Counts-of.result
+small c = subst⁻¹ Small c.Counts-of.ensures (counts-small _ _)
+
+pub grown-refused-requires : goal.grown-refused-requires
+grown-refused-requires c = omega (arith, c.one.ensures, one-small c.before.is-refused.result)
+
+pub grown-begun-requires : goal.grown-begun-requires
+grown-begun-requires c = (small c.before.before.before).begun
+
+pub grown-committed-requires : goal.grown-committed-requires
+grown-committed-requires c = (small c.before.before.before.before).committed
+
+pub grown-backed-requires : goal.grown-backed-requires
+grown-backed-requires c = (small c.before.before.before.before.before).backed
+
+pub grown-unsettled-requires : goal.grown-unsettled-requires
+grown-unsettled-requires c = (small c.before.before.before.before.before.before).unsettled
+
+pub returns : goal.returns
+unfolding with_book
+returns c =
+    let t = c.before.before.before.before.before.before.before.before.before.before.before.args.totals in
+    let counts = c.before.before.before.before.before.before.before.before.Counts-of.ensures in
+    λ k.
+    record {
+      books = t.books + 1;
+      refused = (c.before.before.before.before.before.grown-refused.ensures ∙ ap (grown t.refused) (c.before.before.before.before.before.before.one.ensures ∙ ap one c.before.before.before.before.before.before.before.is-refused.ensures)) k;
+      begun = (c.before.before.before.before.grown-begun.ensures ∙ ap (λ (n : SagaCounts). grown t.begun n.begun) counts) k;
+      committed = (c.before.before.before.grown-committed.ensures ∙ ap (λ (n : SagaCounts). grown t.committed n.committed) counts) k;
+      backed = (c.before.before.grown-backed.ensures ∙ ap (λ (n : SagaCounts). grown t.backed n.backed) counts) k;
+      unsettled = (c.before.grown-unsettled.ensures ∙ ap (λ (n : SagaCounts). grown t.unsettled n.unsettled) counts) k;
+    }
