@@ -2,12 +2,22 @@ use native.Mathlib.Omega.{arith}
 use Rattle.cells.proofs.CellLaws.{cell-back, mark-small, fate-small}
 use Prim.Native.Nat.{◌<◌}
 use borrow.Author.Rules.{rules}
+use Rattle.cells.proofs.cell_of.Lts as lts
+use Rattle.cells.proofs.cell_of.Reads as reads
+use Rattle.cells.proofs.cell_of.Tie as tie
 use Rattle.cells.proofs.cell_of.Goals as goal
 
-m-small : (c : goal.After-mark_code-m) → c.mark_code-m.result < 2
+-- how things stand at places where nothing is asked
+abbrev After-mark_code-m : Type 0
+After-mark_code-m = lts.After-mark_code tie.the-claims reads.Pre reads.Post
+
+abbrev After-fate_code-f : Type 0
+After-fate_code-f = lts.After-fate_code tie.the-claims reads.Pre reads.Post
+
+m-small : (c : After-mark_code-m) → c.mark_code-m.result < 2
 m-small c = omega (arith, c.mark_code-m.ensures, mark-small c.before.args.op.mark)
 
-f-small : (c : goal.After-fate_code-f) → c.fate_code-f.result < 3
+f-small : (c : After-fate_code-f) → c.fate_code-f.result < 3
 f-small c = omega (arith, c.fate_code-f.ensures, fate-small c.before.before.args.op.fate)
 
 pub overflow_mul-result : goal.overflow_mul-result

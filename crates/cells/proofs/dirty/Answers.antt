@@ -28,7 +28,7 @@ unfolding dirty
 returns-then-dirty_at c =
     let a = c.before.before.before.before.before.before.args in
     let l = c.before.before.before.loop-j in
-    search-hit (dirty_at (ops_in a.ops.now a.n) a.t) (size (ops_in a.ops.now a.n)) l.j (c.before.dirty-at.ensures a.n) c.if-dirty_at.true (omega (arith, size_in a.ops.now a.n))
+    search-hit (dirty_at (ops_in a.ops.now a.n) a.t) (size (ops_in a.ops.now a.n)) l.j (c.before.dirty_at.ensures a.n) c.if-dirty_at.true (omega (arith, size_in a.ops.now a.n))
 
 pub next_read-j-requires-in-loop-j : goal.next_read-j-requires-in-loop-j
 next_read-j-requires-in-loop-j c = (omega arith, omega arith)
@@ -42,7 +42,7 @@ loop-j-preserved c =
     let l = c.before.before.before.before.loop-j in
     let x = c.next_read-j-in-loop-j in
     let dirt = dirty_at (ops_in a.ops.now a.n) a.t in
-    let clean = search-miss dirt l.j l.invariant.2 (c.before.before.dirty-at.ensures a.n) c.before.if-dirty_at.false in
+    let clean = search-miss dirt l.j l.invariant.2 (c.before.before.dirty_at.ensures a.n) c.before.if-dirty_at.false in
     (omega (arith, x.ensures.high), omega arith, any-skipped dirt (read_in a.ops.now a.t) (l.j + 1) c.before.before.before.before.before.before.size-all.result x.result clean x.ensures (λ k h. not-read a.ops.now a.t k a.n h))
 
 pub returns : goal.returns

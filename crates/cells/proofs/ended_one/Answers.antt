@@ -15,8 +15,8 @@ cell_of-requires c =
 pub returns-then-q-all : goal.returns-then-q-all
 returns-then-q-all c =
     let a = c.before.before.before.before.before.before.args in
-    ended-one-stored a.ops.now a.n a.q a.fate c.before.before.before.before.before.size-all.result c.cell-of.result c.before.before.before.before.before.size-all.ensures (omega arith)
-    (c.cell-of.ensures ∙ c.before.ended_alone-after.ensures ∙ ap (ended_alone a.fate c.before.before.before.before.before.size-all.result) c.before.before.op_in-op.ensures)
+    ended-one-stored a.ops.now a.n a.q a.fate c.before.before.before.before.before.size-all.result c.cell_of.result c.before.before.before.before.before.size-all.ensures (omega arith)
+    (c.cell_of.ensures ∙ c.before.ended_alone-after.ensures ∙ ap (ended_alone a.fate c.before.before.before.before.before.size-all.result) c.before.before.op_in-op.ensures)
 
 pub returns-else-q-all : goal.returns-else-q-all
 returns-else-q-all c = let a = c.before.before.args in ended-one-past a.ops.now a.n a.q a.fate (omega arith)

@@ -15,7 +15,7 @@ cell_of-requires c =
 pub returns-then-q-size : goal.returns-then-q-size
 returns-then-q-size c =
     let a = c.before.before.before.before.before.before.before.args in
-    given-stored a.ops.now a.n a.q a.receiver c.cell-of.result (omega arith) (omega arith) (c.cell-of.ensures ∙ c.before.given_to-after.ensures ∙ ap (given_to a.receiver) c.before.before.op_in-op.ensures)
+    given-stored a.ops.now a.n a.q a.receiver c.cell_of.result (omega arith) (omega arith) (c.cell_of.ensures ∙ c.before.given_to-after.ensures ∙ ap (given_to a.receiver) c.before.before.op_in-op.ensures)
 
 pub returns-else-q-size : goal.returns-else-q-size
 returns-else-q-size c = let a = c.before.before.before.args in given-past a.ops.now a.n a.q a.receiver (omega arith) (omega arith)

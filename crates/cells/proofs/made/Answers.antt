@@ -21,4 +21,4 @@ cell_of-requires c = sym c.before.before.fits2.ensures ∙ off-not c.before.befo
 pub returns : goal.returns
 returns c =
     let a = c.before.before.before.before.args in
-    made-stored a.ops.now a.n c.cell-of.result a.op (sym c.before.before.before.fits2.ensures ∙ off-not c.before.before.before.fits2.result c.before.before.if-not-fits.false) c.cell-of.ensures (omega arith)
+    made-stored a.ops.now a.n c.cell_of.result a.op (sym c.before.before.before.fits2.ensures ∙ off-not c.before.before.before.fits2.result c.before.before.if-not-fits.false) c.cell_of.ensures (omega arith)

@@ -27,14 +27,14 @@ unfolding must_wait
 returns-then-awaited_by c =
     let a = c.before.before.before.before.before.before.before.args in
     let l = c.before.before.before.before.before.loop-i in
-    let told = c.before.awaited-by.ensures ∙ ap (waits_for a.t a.object a.mark) (c.before.before.op_in-p.ensures ∙ sym (op-at a.ops.now a.n l.i)) in
+    let told = c.before.awaited_by.ensures ∙ ap (waits_for a.t a.object a.mark) (c.before.before.op_in-p.ensures ∙ sym (op-at a.ops.now a.n l.i)) in
     search-hit (waits a.ops.now a.n a.t a.object a.mark) (size (ops_in a.ops.now a.n)) l.i told c.if-awaited_by.true (omega (arith, size_in a.ops.now a.n))
 
 pub loop-i-preserved : goal.loop-i-preserved
 loop-i-preserved c =
     let a = c.before.before.before.before.before.before.before.args in
     let l = c.before.before.before.before.before.loop-i in
-    let told = c.before.awaited-by.ensures ∙ ap (waits_for a.t a.object a.mark) (c.before.before.op_in-p.ensures ∙ sym (op-at a.ops.now a.n l.i)) in
+    let told = c.before.awaited_by.ensures ∙ ap (waits_for a.t a.object a.mark) (c.before.before.op_in-p.ensures ∙ sym (op-at a.ops.now a.n l.i)) in
     (omega arith, search-miss (waits a.ops.now a.n a.t a.object a.mark) l.i l.invariant.1 told c.if-awaited_by.false)
 
 pub returns : goal.returns

@@ -6,12 +6,19 @@ use Rattle.laws.specs.Index.{highest}
 use Rattle.rules.specs.States.{is_active, own}
 use Rattle.closing.specs.Closing.{active_step}
 use Rattle.laws.proofs.StepLaws.{down-hit, down-miss, down-end}
+use Rattle.closing.proofs.active_step.Lts as lts
+use Rattle.closing.proofs.active_step.Reads as reads
+use Rattle.closing.proofs.active_step.Tie as tie
 use Rattle.closing.proofs.active_step.Goals as goal
 
+-- how things stand at places where nothing is asked
+abbrev After-is_active : Type 0
+After-is_active = lts.After-is_active tie.the-claims reads.Pre reads.Post goal.the-invariant-loop-i goal.the-decreases-loop-i
+
 -- the test of one step
-told : (c : goal.After-is_active)
-    → c.is-active.result ≡ is_active (own c.before.before.before.before.args.transactions c.before.before.before.before.args.first c.before.before.before.loop-i.i)
-told c = c.is-active.ensures ∙ ap is_active c.before.own-step.ensures
+told : (c : After-is_active)
+    → c.is_active.result ≡ is_active (own c.before.before.before.before.args.transactions c.before.before.before.before.args.first c.before.before.before.loop-i.i)
+told c = c.is_active.ensures ∙ ap is_active c.before.own-step.ensures
 
 pub loop-i-init : goal.loop-i-init
 loop-i-init c = (omega arith, refl)

@@ -10,19 +10,26 @@ use Rattle.rules.specs.States.{is_committed, own}
 use Rattle.rules.specs.Rules.{undone}
 use Rattle.rules.specs.declared.Phase.{Phase}
 use Rattle.laws.proofs.StepLaws.{down-hit, down-miss, down-end}
+use Rattle.closing.proofs.all_undone.Lts as lts
+use Rattle.closing.proofs.all_undone.Reads as reads
+use Rattle.closing.proofs.all_undone.Tie as tie
 use Rattle.closing.proofs.all_undone.Goals as goal
+
+-- how things stand at places where nothing is asked
+abbrev After-is_committed-in-loop-i : Type 0
+After-is_committed-in-loop-i = lts.After-is_committed2 tie.the-claims reads.Pre reads.Post goal.the-invariant-loop-i goal.the-decreases-loop-i
 
 -- step i is committed and not undone
 abbrev due : ℕ → (ℕ → Phase) → ℕ → Bool
 due n P i = is_committed (P i) && not (undone n P i)
 
 -- the test of one step
-told : (c : goal.After-is_committed-in-loop-i)
-    → (c.before.is-committed.result && not (ltb c.before.before.before.before.before.loop-i.i c.before.before.before.before.before.before.args.n && c.is_committed-in-loop-i.result))
+told : (c : After-is_committed-in-loop-i)
+    → (c.before.is_committed.result && not (ltb c.before.before.before.before.before.loop-i.i c.before.before.before.before.before.before.args.n && c.is_committed-in-loop-i.result))
     ≡ due c.before.before.before.before.before.before.args.n (own c.before.before.before.before.before.before.args.transactions c.before.before.before.before.before.before.args.first) c.before.before.before.before.before.loop-i.i
 told c =
     ap₂ (λ (a b : Bool). a && not (ltb c.before.before.before.before.before.loop-i.i c.before.before.before.before.before.before.args.n && b))
-    (c.before.is-committed.ensures ∙ ap is_committed c.before.before.before.own-step.ensures)
+    (c.before.is_committed.ensures ∙ ap is_committed c.before.before.before.own-step.ensures)
     (c.is_committed-in-loop-i.ensures ∙ ap is_committed c.before.before.own-undo.ensures)
 
 pub loop-i-init : goal.loop-i-init

@@ -10,6 +10,9 @@ use Rattle.rules.specs.States.{is_committed, own}
 use Rattle.rules.specs.Rules.{undone}
 use Rattle.rules.specs.declared.Phase.{Phase}
 use Rattle.laws.proofs.StepLaws.{down-hit, down-miss, down-end}
+use Rattle.closing.proofs.all_undone.Lts as lts
+use Rattle.closing.proofs.all_undone.Reads as reads
+use Rattle.closing.proofs.all_undone.Tie as tie
 use Rattle.closing.proofs.all_undone.Given as goal
 
 abbrev pub invariant-loop-i : goal.invariant-loop-i

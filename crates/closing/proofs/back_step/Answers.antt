@@ -26,6 +26,6 @@ returns c =
     let d = c.before.before.before.before.before.active_step-active in
     let u = c.before.before.before.next_undo-next in
     let t = a.first + (a.n + u.result) in
-    c.undo-step.ensures
+    c.undo_step.ensures
     ∙ ap (λ (p : Phase). undo_step p t) c.before.own-undo.ensures
     ∙ back-undo a.first a.n (own a.transactions a.first) d.result d.ensures (omega arith) u.result u.ensures (omega arith)

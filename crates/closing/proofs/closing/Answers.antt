@@ -6,28 +6,35 @@ use Rattle.rules.specs.declared.Phase.TheVariants.{Idle, Active, Committed, Abor
 use Rattle.closing.specs.Closing.{closing, closing_by}
 use Rattle.closing.proofs.ReturnLaws.{closing-unlisted, closing_at}
 use borrow.Author.Rules.{rules}
+use Rattle.closing.proofs.closing.Lts as lts
+use Rattle.closing.proofs.closing.Reads as reads
+use Rattle.closing.proofs.closing.Tie as tie
 use Rattle.closing.proofs.closing.Goals as goal
 
+-- how things stand at places where nothing is asked
+abbrev After-own-phase : Type 0
+After-own-phase = lts.After-own tie.the-claims reads.Pre reads.Post
+
 -- by the phase of S
-by : (c : goal.After-own-phase) (p : Phase) → c.own-phase.result ≡ p
+by : (c : After-own-phase) (p : Phase) → c.own-phase.result ≡ p
     → closing_by p c.before.saga_at-s.result.first c.before.saga_at-s.result.steps
     (own c.before.before.before.before.before.args.state.transactions-1 c.before.saga_at-s.result.first)
     ≡ closing c.before.before.before.before.before.args.tables c.before.before.before.before.before.args.state c.before.before.before.before.before.args.saga
 by c p e =
     let a = c.before.before.before.before.before.args in
     let s = c.before.saga_at-s in
-    closing_at a.tables a.state a.saga c.before.before.before.before.is-listed.ensures c.before.before.before.if-not-is_listed.false s.result s.ensures p (sym e ∙ c.own-phase.ensures)
+    closing_at a.tables a.state a.saga c.before.before.before.before.is_listed.ensures c.before.before.before.if-not-is_listed.false s.result s.ensures p (sym e ∙ c.own-phase.ensures)
 
 pub returns-then-not-is_listed : goal.returns-then-not-is_listed
 returns-then-not-is_listed c =
     let a = c.before.before.args in
-    closing-unlisted a.tables a.state a.saga c.before.is-listed.ensures c.if-not-is_listed.true
+    closing-unlisted a.tables a.state a.saga c.before.is_listed.ensures c.if-not-is_listed.true
 
 pub returns-then-is_committed : goal.returns-then-is_committed
 returns-then-is_committed c =
     rw (
       ← by c.before.before.before.before.before Active c.before.before.before.enum_told-in-Active-1.given.1,
-      told is_committed c.before.is-committed.ensures c.before.before.own-last.ensures c.if-is_committed.true,
+      told is_committed c.before.is_committed.ensures c.before.before.own-last.ensures c.if-is_committed.true,
     )
 
 pub returns-in-Idle : goal.returns-in-Idle
@@ -37,7 +44,7 @@ pub returns-else-is_committed : goal.returns-else-is_committed
 returns-else-is_committed c =
     rw (
       ← by c.before.before.before.before.before Active c.before.before.before.enum_told-in-Active-1.given.1,
-      told is_committed c.before.is-committed.ensures c.before.before.own-last.ensures c.if-is_committed.false,
+      told is_committed c.before.is_committed.ensures c.before.before.own-last.ensures c.if-is_committed.false,
     )
 
 pub returns-in-Committed : goal.returns-in-Committed

@@ -4,4 +4,4 @@ use borrow.Author.Rules.{rules}
 use Rattle.closing.proofs.is_listed.Goals as goal
 
 pub returns : goal.returns
-returns c = ap (ltb c.before.args.saga) c.saga-count.ensures
+returns c = ap (ltb c.before.args.saga) c.saga_count.ensures

@@ -8,19 +8,26 @@ use Rattle.rules.specs.States.{is_committed, own}
 use Rattle.rules.specs.declared.Phase.{Phase}
 use Rattle.closing.specs.Closing.{next_undo}
 use Rattle.laws.proofs.StepLaws.{highest-zero, down-hit, down-miss, down-end}
+use Rattle.closing.proofs.next_undo.Lts as lts
+use Rattle.closing.proofs.next_undo.Reads as reads
+use Rattle.closing.proofs.next_undo.Tie as tie
 use Rattle.closing.proofs.next_undo.Goals as goal
+
+-- how things stand at places where nothing is asked
+abbrev After-is_committed-in-loop-i : Type 0
+After-is_committed-in-loop-i = lts.After-is_committed2 tie.the-claims reads.Pre reads.Post goal.the-invariant-loop-i goal.the-decreases-loop-i
 
 -- step i is committed, and its undo is not
 abbrev due : ℕ → (ℕ → Phase) → ℕ → Bool
 due n P i = is_committed (P i) && not (is_committed (P (n + i)))
 
 -- the test of one step
-told : (c : goal.After-is_committed-in-loop-i)
-    → (c.before.is-committed.result && not c.is_committed-in-loop-i.result)
+told : (c : After-is_committed-in-loop-i)
+    → (c.before.is_committed.result && not c.is_committed-in-loop-i.result)
     ≡ due c.before.before.before.before.before.before.before.args.n (own c.before.before.before.before.before.before.before.args.transactions c.before.before.before.before.before.before.before.args.first) c.before.before.before.before.before.loop-i.i
 told c =
     ap₂ (λ (a b : Bool). a && not b)
-    (c.before.is-committed.ensures ∙ ap is_committed c.before.before.before.own-step.ensures)
+    (c.before.is_committed.ensures ∙ ap is_committed c.before.before.before.own-step.ensures)
     (c.is_committed-in-loop-i.ensures ∙ ap is_committed c.before.before.own-undo.ensures)
 
 pub returns-then-n-eq0 : goal.returns-then-n-eq0

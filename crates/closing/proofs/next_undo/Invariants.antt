@@ -8,6 +8,9 @@ use Rattle.rules.specs.States.{is_committed, own}
 use Rattle.rules.specs.declared.Phase.{Phase}
 use Rattle.closing.specs.Closing.{next_undo}
 use Rattle.laws.proofs.StepLaws.{highest-zero, down-hit, down-miss, down-end}
+use Rattle.closing.proofs.next_undo.Lts as lts
+use Rattle.closing.proofs.next_undo.Reads as reads
+use Rattle.closing.proofs.next_undo.Tie as tie
 use Rattle.closing.proofs.next_undo.Given as goal
 
 abbrev pub invariant-loop-i : goal.invariant-loop-i

@@ -9,27 +9,34 @@ use Rattle.closing.specs.Closing.{outstanding, outstanding_by}
 use Rattle.closing.proofs.OutstandingLaws.{to_undo-le}
 use Rattle.closing.proofs.ReturnLaws.{outstanding-unlisted, outstanding-at}
 use borrow.Author.Rules.{rules}
+use Rattle.closing.proofs.outstanding.Lts as lts
+use Rattle.closing.proofs.outstanding.Reads as reads
+use Rattle.closing.proofs.outstanding.Tie as tie
 use Rattle.closing.proofs.outstanding.Goals as goal
 
+-- how things stand at places where nothing is asked
+abbrev After-own-phase : Type 0
+After-own-phase = lts.After-own tie.the-claims reads.Pre reads.Post
+
 -- by the phase of S
-by : (c : goal.After-own-phase) (p : Phase) → c.own-phase.result ≡ p
+by : (c : After-own-phase) (p : Phase) → c.own-phase.result ≡ p
     → outstanding_by p c.before.saga_at-s.result.steps (own c.before.before.before.before.before.args.state.transactions-1 c.before.saga_at-s.result.first)
     ≡ outstanding c.before.before.before.before.before.args.tables c.before.before.before.before.before.args.state c.before.before.before.before.before.args.saga
 by c p e =
     let a = c.before.before.before.before.before.args in
     let s = c.before.saga_at-s in
-    outstanding-at a.tables a.state a.saga c.before.before.before.before.is-listed.ensures c.before.before.before.if-not-is_listed.false s.result s.ensures p (sym e ∙ c.own-phase.ensures)
+    outstanding-at a.tables a.state a.saga c.before.before.before.before.is_listed.ensures c.before.before.before.if-not-is_listed.false s.result s.ensures p (sym e ∙ c.own-phase.ensures)
 
 pub returns-then-not-is_listed : goal.returns-then-not-is_listed
 returns-then-not-is_listed c =
     let a = c.before.before.args in
-    outstanding-unlisted a.tables a.state a.saga c.before.is-listed.ensures c.if-not-is_listed.true
+    outstanding-unlisted a.tables a.state a.saga c.before.is_listed.ensures c.if-not-is_listed.true
 
 pub returns-then-is_committed : goal.returns-then-is_committed
 returns-then-is_committed c =
     rw (
       ← by c.before.before.before.before.before Active c.before.before.before.enum_told-in-Active-1.given.1,
-      told is_committed c.before.is-committed.ensures c.before.before.own-last.ensures c.if-is_committed.true,
+      told is_committed c.before.is_committed.ensures c.before.before.own-last.ensures c.if-is_committed.true,
     )
 
 pub overflow_add-result : goal.overflow_add-result
@@ -44,7 +51,7 @@ pub returns-else-is_committed : goal.returns-else-is_committed
 returns-else-is_committed c =
     rw (
       ← by c.before.before.before.before.before.before Active c.before.before.before.before.enum_told-in-Active-1.given.1,
-      told is_committed c.before.before.is-committed.ensures c.before.before.before.own-last.ensures c.before.if-is_committed.false,
+      told is_committed c.before.before.is_committed.ensures c.before.before.before.own-last.ensures c.before.if-is_committed.false,
     )
     (ap (λ (k : ℕ). 1 + k) c.to_undo-rest.ensures)
 

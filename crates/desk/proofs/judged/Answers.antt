@@ -13,14 +13,14 @@ returns-then-reads_on c =
     (sym c.before.before.reads_on.ensures ∙ c.before.if-reads_on.true)
 
 read-to-first-refusal-permitting-circles-requires :
-    goal.read_to_first_refusal_permitting_circles-requires
+    tie.Need-read-to-first-refusal-permitting-circles-requires
 read-to-first-refusal-permitting-circles-requires c κs = search rules
 
 pub returns-in-Forbidden : goal.returns-in-Forbidden
 returns-in-Forbidden c =
     let a = c.before.before.before.before.before.before.before.args in
     let circles = c.before.before.before.before.before.circles_in-circles in
-    c.read-to-first-refusal.ensures
+    c.read_to_first_refusal.ensures
     ∙ ap (λ (x : Circles). judgement_up_to x a.book.now) (sym c.before.enum_told-1.given.1)
     ∙ judged-to a.way a.book.now circles.result circles.ensures
     (sym c.before.before.before.before.reads_on.ensures ∙ c.before.before.before.if-reads_on.false)
@@ -29,7 +29,7 @@ pub returns-in-Permitted : goal.returns-in-Permitted
 returns-in-Permitted c =
     let a = c.before.before.before.before.before.before.before.args in
     let circles = c.before.before.before.before.before.circles_in-circles in
-    c.read-to-first-refusal-permitting-circles.ensures
+    c.read_to_first_refusal_permitting_circles.ensures
     ∙ ap (λ (x : Circles). judgement_up_to x a.book.now) (sym c.before.enum_told-in-Permitted-1.given.1)
     ∙ judged-to a.way a.book.now circles.result circles.ensures
     (sym c.before.before.before.before.reads_on.ensures ∙ c.before.before.before.if-reads_on.false)

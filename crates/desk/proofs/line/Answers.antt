@@ -8,7 +8,7 @@ pub returns : goal.returns
 returns c =
     λ j sheet st.
     let a = c.before.before.before.before.before.before.before.before.before.before.before.before.before.before.before.args in
-    let put = c.before.before.put-line.ensures in
+    let put = c.before.before.put_line.ensures in
     let whole = is_whole j sheet a.transactions.now a.ops.now a.records.now a.steps.now a.counts.now st in
     let told = c.before.before.before.before.before.before.before.before.before.before.before.before.verdict_in-answer.ensures in
     let tables = c.before.before.before.before.before.before.before.before.before.before.before.outline-tables.ensures in

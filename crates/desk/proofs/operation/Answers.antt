@@ -8,7 +8,7 @@ returns-then-i-all c =
     λ j sheet transactions ws steps st.
     let a = c.before.before.before.before.before.before.args in
     operation-there j sheet transactions a.ops.now ws steps a.counts.now st a.q _ c.before.before.before.before.size-all.ensures
-    (omega arith) _ c.before.op_in-op.ensures _ c.operation-numbers.ensures
+    (omega arith) _ c.before.op_in-op.ensures _ c.operation_numbers.ensures
 
 pub returns : goal.returns
 returns c =

@@ -12,9 +12,16 @@ use Rattle.rules.specs.States.{idle, parent_of}
 use Rattle.rules.specs.declared.Transaction.{Transaction}
 use Rattle.rules.proofs.LentLaws.{length-put, none-begun}
 use Rattle.judge.proofs.ChangeLaws.{empty-whole}
+use Rattle.desk.proofs.put_transactions.Lts as lts
+use Rattle.desk.proofs.put_transactions.Reads as reads
+use Rattle.desk.proofs.put_transactions.Tie as tie
 use Rattle.desk.proofs.put_transactions.Goals as goal
 
-whole : (c : goal.Start) → length c.args.t1 ≡ most_transactions
+-- how things stand at places where nothing is asked
+abbrev Start : Type 0
+Start = lts.Start tie.the-claims reads.Pre reads.Post goal.the-invariant-loop-t goal.the-decreases-loop-t
+
+whole : (c : Start) → length c.args.t1 ≡ most_transactions
 whole c = search (rules, length-mapped)
 
 pub loop-t-init : goal.loop-t-init

@@ -12,6 +12,9 @@ use Rattle.rules.specs.States.{idle, parent_of}
 use Rattle.rules.specs.declared.Transaction.{Transaction}
 use Rattle.rules.proofs.LentLaws.{length-put, none-begun}
 use Rattle.judge.proofs.ChangeLaws.{empty-whole}
+use Rattle.desk.proofs.put_transactions.Lts as lts
+use Rattle.desk.proofs.put_transactions.Reads as reads
+use Rattle.desk.proofs.put_transactions.Tie as tie
 use Rattle.desk.proofs.put_transactions.Given as goal
 
 abbrev pub invariant-loop-t : goal.invariant-loop-t

@@ -9,6 +9,6 @@ returns c =
     λ j sheet ws st.
     let a = c.before.before.before.before.args in
     let whole = is_whole j sheet a.transactions.now a.ops.now ws a.steps.now a.counts.now st in
-    c.saga-of.ensures
+    c.saga_of.ensures
     ∙ saga-is j sheet a.transactions.now a.ops.now ws a.steps.now a.counts.now st _ c.before.before.before.outline-tables.ensures _
     (c.before.state_of-state.ensures whole) a.index

@@ -17,7 +17,7 @@ pub returns-in-Says : goal.returns-in-Says
 returns-in-Says c =
     λ j steps st.
     let a = c.before.before.before.before.before.before.before.before.before.before.before.before.before.args in
-    let t = c.take-event in
+    let t = c.take_event in
     let is = still_open j _ (ended_is j a.sheet.now a.transactions.now a.ops.now a.records.now steps a.counts.now st)
     c.before.before.before.before.before.before.before.before.before.before.before.if-ended-ne0.false in
     let said = named-is j a.sheet.now a.transactions.now a.ops.now a.records.now steps a.counts.now st a.code a.a a.b
@@ -59,6 +59,6 @@ returns-in-NoMark c =
     a.c a.d _ c.before.before.before.before.before.before.before.before.before.before.edition_in-edition.ensures _
     c.before.before.before.before.before.before.before.before.before.named_by-taken.ensures ∙ c.before.before.before.before.before.before.before.enum_told-in-NoMark-1.given.1 in
     let over = passes j a.sheet.now a.transactions.now a.ops.now a.records.now steps a.counts.now st _
-    c.before.before.more-passed.ensures _ c.put-counts.ensures in
-    let d = desk_of a.sheet.now a.transactions.now a.ops.now a.records.now steps c.put-counts.new.0 in
+    c.before.before.more-passed.ensures _ c.put_counts.ensures in
+    let d = desk_of a.sheet.now a.transactions.now a.ops.now a.records.now steps c.put_counts.new.0 in
     (open-asked j is _ _ said, subst (λ (x : Judgement). DeskStands x d) (open-taken j is _ _ said) over)

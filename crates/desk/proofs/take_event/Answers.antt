@@ -16,7 +16,7 @@ returns-in-Accepted c =
       sym (ap verdict_number (sym is ∙ told)),
       took j a.sheet.now a.transactions.now a.ops.now a.records.now steps a.counts.now st a.event t.new.1.0
           t.new.1.1.0 t.result.verdict t.result.count t.result.left e.0 e.1.0 e.1.1
-          told a.pupil _ c.before.before.before.note.ensures _ c.before.before.more-taken.ensures _ c.put-counts.ensures,
+          told a.pupil _ c.before.before.before.note.ensures _ c.before.before.more-taken.ensures _ c.put_counts.ensures,
     )
 
 pub returns-in-Refused : goal.returns-in-Refused

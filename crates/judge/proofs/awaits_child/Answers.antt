@@ -15,4 +15,4 @@ returns-then-not_plain c tables h =
 pub returns : goal.returns
 returns c tables h =
     let a = c.before.before.before.args in
-    rw (off-not (is_plain (sort_of tables a.t)) (sym (sorted (λ (x : Sort). not (is_plain x)) a.sheet.now tables h a.t c.before.before.not_plain.ensures) ∙ c.before.if-not_plain.false)) c.child-active.ensures
+    rw (off-not (is_plain (sort_of tables a.t)) (sym (sorted (λ (x : Sort). not (is_plain x)) a.sheet.now tables h a.t c.before.before.not_plain.ensures) ∙ c.before.if-not_plain.false)) c.child_active.ensures

@@ -25,7 +25,7 @@ returns-in-Ends c f =
 pub returns-in-EndsOne : goal.returns-in-EndsOne
 returns-in-EndsOne c f =
     let a = c.before.before.before.before.before.args in
-    after a.transactions.now a.transactions.now a.ops.now c.ended-one.new.0 a.n a.n a.change (EndsOne c.before.before.before.change-in-EndsOne-1.given.0.0 c.before.before.before.change-in-EndsOne-1.given.0.1.0) c.before.before.before.change-in-EndsOne-1.given.1 (refl) c.ended-one.ensures
+    after a.transactions.now a.transactions.now a.ops.now c.ended_one.new.0 a.n a.n a.change (EndsOne c.before.before.before.change-in-EndsOne-1.given.0.0 c.before.before.before.change-in-EndsOne-1.given.0.1.0) c.before.before.before.change-in-EndsOne-1.given.1 (refl) c.ended_one.ensures
 
 pub returns-in-Makes : goal.returns-in-Makes
 returns-in-Makes c f =

@@ -12,9 +12,16 @@ use Rattle.judge.proofs.clerk_of.Reads as reads
 use Rattle.judge.proofs.clerk_of.Lts as lts
 use Rattle.judge.proofs.not_plain.Reads as not-plain-reads
 use Rattle.rules.proofs.parent_at.Reads as parent-at-reads
+use Rattle.judge.proofs.clerk_of.Lts as lts
+use Rattle.judge.proofs.clerk_of.Reads as reads
+use Rattle.judge.proofs.clerk_of.Tie as tie
 use Rattle.judge.proofs.clerk_of.Goals as goal
 
-plain : (c : goal.Else-not_plain) (tables : Tables) → let a = c.before.before.args in Holds tables a.sheet.now → is_plain (sort_of tables a.t) ≡ true
+-- how things stand at places where nothing is asked
+abbrev Else-not_plain : Type 0
+Else-not_plain = lts.Else1 tie.the-claims reads.Pre reads.Post
+
+plain : (c : Else-not_plain) (tables : Tables) → let a = c.before.before.args in Holds tables a.sheet.now → is_plain (sort_of tables a.t) ≡ true
 plain c tables h =
     let a = c.before.before.args in
     off-not (is_plain (sort_of tables a.t)) (sym (sorted (λ (x : Sort). not (is_plain x)) a.sheet.now tables h a.t c.before.not_plain.ensures) ∙ c.if-not_plain.false)

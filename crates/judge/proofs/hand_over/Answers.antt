@@ -21,45 +21,64 @@ use Rattle.judge.specs.declared.Ruling.{Ruling}
 use Rattle.judge.proofs.RuleLaws.{ruled-passed, ruled-stopped}
 use Rattle.judge.proofs.LentLaws.{sorted}
 use borrow.Author.Rules.{rules}
+use Rattle.judge.proofs.hand_over.Lts as lts
+use Rattle.judge.proofs.hand_over.Reads as reads
+use Rattle.judge.proofs.hand_over.Tie as tie
 use Rattle.judge.proofs.hand_over.Goals as goal
 
+-- how things stand at places where nothing is asked
+abbrev Start : Type 0
+Start = lts.Start tie.the-claims reads.Pre reads.Post
+
+abbrev Else-unknown : Type 0
+Else-unknown = lts.Else1 tie.the-claims reads.Pre reads.Post
+
+abbrev Else-inactive : Type 0
+Else-inactive = lts.Else2 tie.the-claims reads.Pre reads.Post
+
+abbrev Else-declared_bars-awaits_child : Type 0
+Else-declared_bars-awaits_child = lts.Else3 tie.the-claims reads.Pre reads.Post
+
+abbrev Else-hands_a_ring : Type 0
+Else-hands_a_ring = lts.Else4 tie.the-claims reads.Pre reads.Post
+
 -- the lines from one on, and what they give
-abbrev rest : ℕ → goal.Start → Tables → List (Line Refusal)
+abbrev rest : ℕ → Start → Tables → List (Line Refusal)
 rest k s tables = drop k (hand_lines tables (transactions_in s.args.transactions.now) (ops_in s.args.ops.now s.args.n) s.args.t s.args.m)
 
-abbrev becomes : goal.Start → Tables → Change
+abbrev becomes : Start → Tables → Change
 becomes s tables = commit_under s.args.t (Under s.args.m)
 
-abbrev from : ℕ → goal.Start → Tables → Ruling
+abbrev from : ℕ → Start → Tables → Ruling
 from k s tables = ruled_by (rest k s tables) (becomes s tables)
 
-abbrev Held : goal.Start → Tables → Type 0
+abbrev Held : Start → Tables → Type 0
 Held s tables = Holds tables s.args.sheet.now
 
 -- each line that was passed
-past1 : (c : goal.Else-unknown) (tables : Tables) → let s = c.before.before in Held s tables → from 0 s tables ≡ from 1 s tables
+past1 : (c : Else-unknown) (tables : Tables) → let s = c.before.before in Held s tables → from 0 s tables ≡ from 1 s tables
 past1 c tables h =
     let s = c.before.before in
     let a = s.args in
     ruled-passed (rest 0 s tables) (becomes s tables) (sym (sorted (λ (x : Sort). not (is_known x)) a.sheet.now tables h a.t c.before.unknown.ensures) ∙ c.if-unknown.false)
 
-past2 : (c : goal.Else-inactive) (tables : Tables) → let s = c.before.before.before.before in Held s tables → from 0 s tables ≡ from 2 s tables
+past2 : (c : Else-inactive) (tables : Tables) → let s = c.before.before.before.before in Held s tables → from 0 s tables ≡ from 2 s tables
 past2 c tables h =
     let s = c.before.before.before.before in
     let a = s.args in
     past1 c.before.before tables h ∙ ruled-passed (rest 1 s tables) (becomes s tables) (sym c.before.inactive.ensures ∙ c.if-inactive.false)
 
-past3 : (c : goal.Else-declared_bars-awaits_child) (tables : Tables) → let s = c.before.before.before.before.before.before.before.before in Held s tables → from 0 s tables ≡ from 3 s tables
+past3 : (c : Else-declared_bars-awaits_child) (tables : Tables) → let s = c.before.before.before.before.before.before.before.before in Held s tables → from 0 s tables ≡ from 3 s tables
 past3 c tables h =
     let s = c.before.before.before.before.before.before.before.before in
     let a = s.args in
-    past2 c.before.before.before.before tables h ∙ ruled-passed (rest 2 s tables) (becomes s tables) (sym (ap₂ ◌||◌ (c.before.before.before.declared-bars.ensures tables h) (ap₂ ◌||◌ (c.before.before.awaits-child.ensures tables h) c.before.inactive-2.ensures)) ∙ c.if-declared_bars-awaits_child.false)
+    past2 c.before.before.before.before tables h ∙ ruled-passed (rest 2 s tables) (becomes s tables) (sym (ap₂ ◌||◌ (c.before.before.before.declared_bars.ensures tables h) (ap₂ ◌||◌ (c.before.before.awaits_child.ensures tables h) c.before.inactive-2.ensures)) ∙ c.if-declared_bars-awaits_child.false)
 
-past4 : (c : goal.Else-hands_a_ring) (tables : Tables) → let s = c.before.before.before.before.before.before.before.before.before.before in Held s tables → from 0 s tables ≡ from 4 s tables
+past4 : (c : Else-hands_a_ring) (tables : Tables) → let s = c.before.before.before.before.before.before.before.before.before.before in Held s tables → from 0 s tables ≡ from 4 s tables
 past4 c tables h =
     let s = c.before.before.before.before.before.before.before.before.before.before in
     let a = s.args in
-    past3 c.before.before tables h ∙ ruled-passed (rest 3 s tables) (becomes s tables) (sym (c.before.hands-a-ring.ensures tables h) ∙ c.if-hands_a_ring.false)
+    past3 c.before.before tables h ∙ ruled-passed (rest 3 s tables) (becomes s tables) (sym (c.before.hands_a_ring.ensures tables h) ∙ c.if-hands_a_ring.false)
 
 pub returns-then-unknown : goal.returns-then-unknown
 returns-then-unknown c tables h =
@@ -77,13 +96,13 @@ pub returns-then-declared_bars-awaits_child : goal.returns-then-declared_bars-aw
 returns-then-declared_bars-awaits_child c tables h =
     let s = c.before.before.before.before.before.before.before.before.before in
     let a = s.args in
-    c.refused-then-declared_bars-awaits_child.ensures ∙ sym (past2 c.before.before.before.before.before tables h ∙ ruled-stopped (rest 2 s tables) (becomes s tables) (sym (ap₂ ◌||◌ (c.before.before.before.before.declared-bars.ensures tables h) (ap₂ ◌||◌ (c.before.before.before.awaits-child.ensures tables h) c.before.before.inactive-2.ensures)) ∙ c.before.if-declared_bars-awaits_child.true))
+    c.refused-then-declared_bars-awaits_child.ensures ∙ sym (past2 c.before.before.before.before.before tables h ∙ ruled-stopped (rest 2 s tables) (becomes s tables) (sym (ap₂ ◌||◌ (c.before.before.before.before.declared_bars.ensures tables h) (ap₂ ◌||◌ (c.before.before.before.awaits_child.ensures tables h) c.before.before.inactive-2.ensures)) ∙ c.before.if-declared_bars-awaits_child.true))
 
 pub returns-then-hands_a_ring : goal.returns-then-hands_a_ring
 returns-then-hands_a_ring c tables h =
     let s = c.before.before.before.before.before.before.before.before.before.before.before in
     let a = s.args in
-    c.refused-then-hands_a_ring.ensures ∙ sym (past3 c.before.before.before tables h ∙ ruled-stopped (rest 3 s tables) (becomes s tables) (sym (c.before.before.hands-a-ring.ensures tables h) ∙ c.before.if-hands_a_ring.true))
+    c.refused-then-hands_a_ring.ensures ∙ sym (past3 c.before.before.before tables h ∙ ruled-stopped (rest 3 s tables) (becomes s tables) (sym (c.before.before.hands_a_ring.ensures tables h) ∙ c.before.if-hands_a_ring.true))
 
 pub returns : goal.returns
 returns c tables h = c.accepted.ensures ∙ sym (past4 c.before tables h)

@@ -16,4 +16,4 @@ pub returns : goal.returns
 returns c tables h =
     let a = c.before.before.before.args in
     let u = c.before.before.active_undos-undos in
-    c.ring-handed.ensures ∙ ring-some (before_handed (ops_in a.ops.now a.n) a.t a.m) tables (transactions_in a.transactions.now) u.result a.m (u.ensures tables h)
+    c.ring_handed.ensures ∙ ring-some (before_handed (ops_in a.ops.now a.n) a.t a.m) tables (transactions_in a.transactions.now) u.result a.m (u.ensures tables h)

@@ -16,4 +16,4 @@ pub returns : goal.returns
 returns c tables h =
     let a = c.before.before.before.args in
     let u = c.before.before.active_undos-undos in
-    c.ring-made.ensures ∙ ring-some (before_made (ops_in a.ops.now a.n) a.op) tables (transactions_in a.transactions.now) u.result a.op.responsible (u.ensures tables h)
+    c.ring_made.ensures ∙ ring-some (before_made (ops_in a.ops.now a.n) a.op) tables (transactions_in a.transactions.now) u.result a.op.responsible (u.ensures tables h)

@@ -38,13 +38,13 @@ pub returns-in-CommitOne : goal.returns-in-CommitOne
 unfolding ruling_of
 returns-in-CommitOne c tables h k =
     let a = c.before.before.before.before.args in
-    c.commit-one.ensures tables h k ∙ ap (ruling_of tables (state_in a.transactions.now a.ops.now a.n)) (sym c.before.before.event-in-CommitOne-1.given.1)
+    c.commit_one.ensures tables h k ∙ ap (ruling_of tables (state_in a.transactions.now a.ops.now a.n)) (sym c.before.before.event-in-CommitOne-1.given.1)
 
 pub returns-in-AbortOne : goal.returns-in-AbortOne
 unfolding ruling_of
 returns-in-AbortOne c tables h k =
     let a = c.before.before.before.before.args in
-    c.abort-one.ensures tables h ∙ ap (ruling_of tables (state_in a.transactions.now a.ops.now a.n)) (sym c.before.before.event-in-AbortOne-1.given.1)
+    c.abort_one.ensures tables h ∙ ap (ruling_of tables (state_in a.transactions.now a.ops.now a.n)) (sym c.before.before.event-in-AbortOne-1.given.1)
 
 pub returns-in-Spawn : goal.returns-in-Spawn
 unfolding ruling_of

@@ -22,51 +22,73 @@ use Rattle.judge.proofs.RuleLaws.{ruled-passed, ruled-stopped}
 use Rattle.judge.proofs.LentLaws.{sorted}
 use Rattle.terms.specs.declared.Event.TheVariants.{Spawn}
 use borrow.Author.Rules.{rules}
+use Rattle.judge.proofs.spawn.Lts as lts
+use Rattle.judge.proofs.spawn.Reads as reads
+use Rattle.judge.proofs.spawn.Tie as tie
 use Rattle.judge.proofs.spawn.Goals as goal
 
+-- how things stand at places where nothing is asked
+abbrev Start : Type 0
+Start = lts.Start tie.the-claims reads.Pre reads.Post
+
+abbrev Else-unknown : Type 0
+Else-unknown = lts.Else1 tie.the-claims reads.Pre reads.Post
+
+abbrev Else-not_plain : Type 0
+Else-not_plain = lts.Else2 tie.the-claims reads.Pre reads.Post
+
+abbrev Else-not_idle : Type 0
+Else-not_idle = lts.Else3 tie.the-claims reads.Pre reads.Post
+
+abbrev Else-inactive : Type 0
+Else-inactive = lts.Else4 tie.the-claims reads.Pre reads.Post
+
+abbrev Else-declared_bars : Type 0
+Else-declared_bars = lts.Else5 tie.the-claims reads.Pre reads.Post
+
 -- the lines from one on, and what they give
-abbrev rest : ℕ → goal.Start → Tables → List (Line Refusal)
+abbrev rest : ℕ → Start → Tables → List (Line Refusal)
 rest k s tables = drop k (spawn_lines tables (transactions_in s.args.transactions.now) s.args.m s.args.c)
 
-abbrev becomes : goal.Start → Tables → Change
+abbrev becomes : Start → Tables → Change
 becomes s tables = change_of tables (transactions_in s.args.transactions.now) (Spawn s.args.m s.args.c)
 
-abbrev from : ℕ → goal.Start → Tables → Ruling
+abbrev from : ℕ → Start → Tables → Ruling
 from k s tables = ruled_by (rest k s tables) (becomes s tables)
 
-abbrev Held : goal.Start → Tables → Type 0
+abbrev Held : Start → Tables → Type 0
 Held s tables = Holds tables s.args.sheet.now
 
 -- each line that was passed
-past1 : (c : goal.Else-unknown) (tables : Tables) → let s = c.before.before.before in Held s tables → from 0 s tables ≡ from 1 s tables
+past1 : (c : Else-unknown) (tables : Tables) → let s = c.before.before.before in Held s tables → from 0 s tables ≡ from 1 s tables
 past1 c tables h =
     let s = c.before.before.before in
     let a = s.args in
     ruled-passed (rest 0 s tables) (becomes s tables) (sym (ap₂ ◌||◌ (sorted (λ (x : Sort). not (is_known x)) a.sheet.now tables h a.m c.before.before.unknown.ensures) (sorted (λ (x : Sort). not (is_known x)) a.sheet.now tables h a.c c.before.unknown-2.ensures)) ∙ c.if-unknown.false)
 
-past2 : (c : goal.Else-not_plain) (tables : Tables) → let s = c.before.before.before.before.before.before in Held s tables → from 0 s tables ≡ from 2 s tables
+past2 : (c : Else-not_plain) (tables : Tables) → let s = c.before.before.before.before.before.before in Held s tables → from 0 s tables ≡ from 2 s tables
 past2 c tables h =
     let s = c.before.before.before.before.before.before in
     let a = s.args in
     past1 c.before.before.before tables h ∙ ruled-passed (rest 1 s tables) (becomes s tables) (sym (ap₂ ◌||◌ (sorted (λ (x : Sort). not (is_plain x)) a.sheet.now tables h a.m c.before.before.not_plain.ensures) (sorted (λ (x : Sort). not (is_plain x)) a.sheet.now tables h a.c c.before.not_plain-2.ensures)) ∙ c.if-not_plain.false)
 
-past3 : (c : goal.Else-not_idle) (tables : Tables) → let s = c.before.before.before.before.before.before.before.before in Held s tables → from 0 s tables ≡ from 3 s tables
+past3 : (c : Else-not_idle) (tables : Tables) → let s = c.before.before.before.before.before.before.before.before in Held s tables → from 0 s tables ≡ from 3 s tables
 past3 c tables h =
     let s = c.before.before.before.before.before.before.before.before in
     let a = s.args in
-    past2 c.before.before tables h ∙ ruled-passed (rest 2 s tables) (becomes s tables) (sym c.before.not-idle.ensures ∙ c.if-not_idle.false)
+    past2 c.before.before tables h ∙ ruled-passed (rest 2 s tables) (becomes s tables) (sym c.before.not_idle.ensures ∙ c.if-not_idle.false)
 
-past4 : (c : goal.Else-inactive) (tables : Tables) → let s = c.before.before.before.before.before.before.before.before.before.before in Held s tables → from 0 s tables ≡ from 4 s tables
+past4 : (c : Else-inactive) (tables : Tables) → let s = c.before.before.before.before.before.before.before.before.before.before in Held s tables → from 0 s tables ≡ from 4 s tables
 past4 c tables h =
     let s = c.before.before.before.before.before.before.before.before.before.before in
     let a = s.args in
     past3 c.before.before tables h ∙ ruled-passed (rest 3 s tables) (becomes s tables) (sym c.before.inactive.ensures ∙ c.if-inactive.false)
 
-past5 : (c : goal.Else-declared_bars) (tables : Tables) → let s = c.before.before.before.before.before.before.before.before.before.before.before.before in Held s tables → from 0 s tables ≡ from 5 s tables
+past5 : (c : Else-declared_bars) (tables : Tables) → let s = c.before.before.before.before.before.before.before.before.before.before.before.before in Held s tables → from 0 s tables ≡ from 5 s tables
 past5 c tables h =
     let s = c.before.before.before.before.before.before.before.before.before.before.before.before in
     let a = s.args in
-    past4 c.before.before tables h ∙ ruled-passed (rest 4 s tables) (becomes s tables) (sym (c.before.declared-bars.ensures tables h) ∙ c.if-declared_bars.false)
+    past4 c.before.before tables h ∙ ruled-passed (rest 4 s tables) (becomes s tables) (sym (c.before.declared_bars.ensures tables h) ∙ c.if-declared_bars.false)
 
 pub returns-then-unknown : goal.returns-then-unknown
 returns-then-unknown c tables h =
@@ -84,7 +106,7 @@ pub returns-then-not_idle : goal.returns-then-not_idle
 returns-then-not_idle c tables h =
     let s = c.before.before.before.before.before.before.before.before.before in
     let a = s.args in
-    c.refused-then-not_idle.ensures ∙ sym (past2 c.before.before.before tables h ∙ ruled-stopped (rest 2 s tables) (becomes s tables) (sym c.before.before.not-idle.ensures ∙ c.before.if-not_idle.true))
+    c.refused-then-not_idle.ensures ∙ sym (past2 c.before.before.before tables h ∙ ruled-stopped (rest 2 s tables) (becomes s tables) (sym c.before.before.not_idle.ensures ∙ c.before.if-not_idle.true))
 
 pub returns-then-inactive : goal.returns-then-inactive
 returns-then-inactive c tables h =
@@ -96,7 +118,7 @@ pub returns-then-declared_bars : goal.returns-then-declared_bars
 returns-then-declared_bars c tables h =
     let s = c.before.before.before.before.before.before.before.before.before.before.before.before.before in
     let a = s.args in
-    c.refused-then-declared_bars.ensures ∙ sym (past4 c.before.before.before tables h ∙ ruled-stopped (rest 4 s tables) (becomes s tables) (sym (c.before.before.declared-bars.ensures tables h) ∙ c.before.if-declared_bars.true))
+    c.refused-then-declared_bars.ensures ∙ sym (past4 c.before.before.before tables h ∙ ruled-stopped (rest 4 s tables) (becomes s tables) (sym (c.before.before.declared_bars.ensures tables h) ∙ c.before.if-declared_bars.true))
 
 pub returns : goal.returns
 returns c tables h = c.accepted.ensures ∙ sym (past5 c.before tables h)

@@ -5,7 +5,7 @@ use borrow.Author.Rules.{rules}
 use Rattle.left.proofs.moves_on.Goals as goal
 
 pub returns-in-Begin : goal.returns-in-Begin
-returns-in-Begin c = c.sort-at.ensures ∙ ap (moves_by (sort_at c.before.before.before.before.args.sheet.now)) (sym c.before.before.event-1.given.1)
+returns-in-Begin c = c.sort_at.ensures ∙ ap (moves_by (sort_at c.before.before.before.before.args.sheet.now)) (sym c.before.before.event-1.given.1)
 
 pub returns-in-Commit : goal.returns-in-Commit
 returns-in-Commit c = c.sort_at-in-Commit.ensures ∙ ap (moves_by (sort_at c.before.before.before.before.args.sheet.now)) (sym c.before.before.event-in-Commit-1.given.1)

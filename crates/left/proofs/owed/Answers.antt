@@ -9,12 +9,12 @@ use Rattle.left.proofs.owed.Goals as goal
 
 pub overflow_cast-result : goal.overflow_cast-result
 overflow_cast-result c =
-    omega (arith, owed_by-le c.before.own_at-undo.result, c.owed-by.ensures)
+    omega (arith, owed_by-le c.before.own_at-undo.result, c.owed_by.ensures)
 
 pub returns-then-is_committed : goal.returns-then-is_committed
 returns-then-is_committed c =
-    rw (told is_committed c.before.before.before.is-committed.ensures c.before.before.before.before.own_at-step.ensures c.before.before.if-is_committed.true)
-    (c.owed-by.ensures ∙ ap owed_by c.before.own_at-undo.ensures)
+    rw (told is_committed c.before.before.before.is_committed.ensures c.before.before.before.before.own_at-step.ensures c.before.before.if-is_committed.true)
+    (c.owed_by.ensures ∙ ap owed_by c.before.own_at-undo.ensures)
 
 pub returns : goal.returns
-returns c = rw (told is_committed c.before.is-committed.ensures c.before.before.own_at-step.ensures c.if-is_committed.false)
+returns c = rw (told is_committed c.before.is_committed.ensures c.before.before.own_at-step.ensures c.if-is_committed.false)

@@ -10,10 +10,17 @@ use Rattle.closing.specs.Closing.{outstanding_by}
 use Rattle.closing.proofs.OutstandingLaws.{to_undo-le}
 use Rattle.left.specs.Left.{owed_from}
 use borrow.Author.Rules.{rules}
+use Rattle.left.proofs.owed_in.Lts as lts
+use Rattle.left.proofs.owed_in.Reads as reads
+use Rattle.left.proofs.owed_in.Tie as tie
 use Rattle.left.proofs.owed_in.Goals as goal
 
+-- how things stand at places where nothing is asked
+abbrev After-own_at-phase : Type 0
+After-own_at-phase = lts.After-own_at tie.the-claims reads.Pre reads.Post
+
 -- by the phase of S
-by : (c : goal.After-own_at-phase) (p : Phase) → c.own_at-phase.result ≡ p
+by : (c : After-own_at-phase) (p : Phase) → c.own_at-phase.result ≡ p
     → outstanding_by p c.before.args.n (own (transactions_in c.before.args.transactions.now) c.before.args.first)
     ≡ owed_from (transactions_in c.before.args.transactions.now) c.before.args.first c.before.args.n
 by c p e =
@@ -25,7 +32,7 @@ pub returns-then-is_committed : goal.returns-then-is_committed
 returns-then-is_committed c =
     rw (
       ← by c.before.before.before.before.before Active c.before.before.before.enum_told-in-Active-1.given.1,
-      told is_committed c.before.is-committed.ensures c.before.before.own_at-last.ensures c.if-is_committed.true,
+      told is_committed c.before.is_committed.ensures c.before.before.own_at-last.ensures c.if-is_committed.true,
     )
 
 pub overflow_add-result : goal.overflow_add-result
@@ -40,7 +47,7 @@ pub returns-else-is_committed : goal.returns-else-is_committed
 returns-else-is_committed c =
     rw (
       ← by c.before.before.before.before.before.before Active c.before.before.before.before.enum_told-in-Active-1.given.1,
-      told is_committed c.before.before.is-committed.ensures c.before.before.before.own_at-last.ensures c.before.if-is_committed.false,
+      told is_committed c.before.before.is_committed.ensures c.before.before.before.own_at-last.ensures c.before.if-is_committed.false,
     )
     (ap (λ (k : ℕ). 1 + k) c.to_undo-rest.ensures)
 

@@ -10,14 +10,14 @@ pub returns-then-k-transactions : goal.returns-then-k-transactions
 returns-then-k-transactions c =
     let a = c.before.before.before.before.before.before.args in
     let t = c.before.before.transaction_count-transactions in
-    c.transaction-line.ensures ∙ ap (with_all []) (sym (later-transaction a.judgement a.k t.result t.ensures (omega arith)))
+    c.transaction_line.ensures ∙ ap (with_all []) (sym (later-transaction a.judgement a.k t.result t.ensures (omega arith)))
 
 pub returns-then-q-operations : goal.returns-then-q-operations
 returns-then-q-operations c =
     let a = c.before.before.before.before.before.before.before.before.before.before.args in
     let t = c.before.before.before.before.before.before.transaction_count-transactions in
     let o = c.before.before.before.before.size-operations in
-    c.operation-line.ensures
+    c.operation_line.ensures
     ∙ ap (with_all []) (sym (later-operation a.judgement a.k t.result t.ensures o.result o.ensures (omega arith) (omega arith)))
 
 pub returns : goal.returns
@@ -25,5 +25,5 @@ returns c =
     let a = c.before.before.before.before.before.before.before.before.args in
     let t = c.before.before.before.before.transaction_count-transactions in
     let o = c.before.before.size-operations in
-    c.saga-line.ensures
+    c.saga_line.ensures
     ∙ ap (with_all []) (sym (later-saga a.judgement a.k t.result t.ensures o.result o.ensures (omega arith) (omega arith)))

@@ -58,16 +58,16 @@ pub lay_number-requires : goal.lay_number-requires
 lay_number-requires c = (c.before.before.before.digits-long.ensures, omega (arith, front_long c.before))
 
 pub bounds-room-blank : goal.bounds-room-blank
-bounds-room-blank c = omega (arith, c.before.before.lay-number.auto.1.1.1.0, front_long c.before.before.before.before)
+bounds-room-blank c = omega (arith, c.before.before.lay_number.auto.1.1.1.0, front_long c.before.before.before.before)
 
 -- the room keeps its length
-second-long : (c : goal.After-slice_known-2-1) → length (set c.before.before.lay-number.new.1.1.1.0 (c.before.before.before.before.before.before.before.before.before.args.at + 3 + c.before.before.before.before.before.before.digits-long.result) 32) ≡ length c.before.before.before.before.before.before.before.before.before.args.room.now
-second-long c = simp length-set (c.before.before.lay-number.auto.1.1.1.0 ∙ front_long c.before.before.before.before)
+second-long : (c : goal.After-slice_known-2-1) → length (set c.before.before.lay_number.new.1.1.1.0 (c.before.before.before.before.before.before.before.before.before.args.at + 3 + c.before.before.before.before.before.before.digits-long.result) 32) ≡ length c.before.before.before.before.before.before.before.before.before.args.room.now
+second-long c = simp length-set (c.before.before.lay_number.auto.1.1.1.0 ∙ front_long c.before.before.before.before)
 
 pub lay_number-requires-2 : goal.lay_number-requires-2
 lay_number-requires-2 c = (
   c.before.before.before.before.before.before.digits-wide.ensures,
-  simp length-set (omega (arith, c.before.before.before.lay-number.auto.1.1.1.0, front_long c.before.before.before.before.before)),
+  simp length-set (omega (arith, c.before.before.before.lay_number.auto.1.1.1.0, front_long c.before.before.before.before.before)),
 )
 
 pub bounds-room-feed : goal.bounds-room-feed
@@ -82,7 +82,7 @@ returns c =
     let room = a.room.now in
     let x = a.no in
     let d = c.before.before.before.before.before.before.before.before.before in
-    let one = c.before.before.before.before.before.before.lay-number in
+    let one = c.before.before.before.before.before.before.lay_number in
     let two = c.before.before.lay_number-2 in
     let blank = a.at + 3 + d.before.digits-long.result in
     let feed = blank + 1 + d.digits-wide.result in

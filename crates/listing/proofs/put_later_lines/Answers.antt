@@ -8,7 +8,14 @@ use Rattle.onward.proofs.RoomLaws.{Laying, laying-done, laying-more, laying-next
 use Rattle.onward.specs.Rooms.{Lays}
 use Rattle.listing.specs.Lines.{line_count, line_of, lines_from}
 use Rattle.listing.proofs.StepLaws.{lines_end, lines_step, some-line}
+use Rattle.listing.proofs.put_later_lines.Lts as lts
+use Rattle.listing.proofs.put_later_lines.Reads as reads
+use Rattle.listing.proofs.put_later_lines.Tie as tie
 use Rattle.listing.proofs.put_later_lines.Goals as goal
+
+-- how things stand at places where nothing is asked
+abbrev After-line-text : Type 0
+After-line-text = lts.After-line tie.the-claims reads.Pre reads.Post goal.the-invariant-loop-k goal.the-decreases-loop-k
 
 pub loop-k-init : goal.loop-k-init
 loop-k-init c =
@@ -17,7 +24,7 @@ loop-k-init c =
     (omega arith, omega (arith, c.line_count-lines.ensures, some-line r), c.line_count-lines.ensures, refl, laying-start a.at (lines_from r 1 (line_count r - 1)) a.room.now)
 
 -- the next line, and those behind it
-one_more : (c : goal.After-line-text)
+one_more : (c : After-line-text)
     → let r = c.before.before.before.before.before.args.judgement in
     let k = c.before.before.loop-k.k in
     lines_from r k (line_count r - k) ≡ line_of r k ++ lines_from r (k + 1) (line_count r - (k + 1))

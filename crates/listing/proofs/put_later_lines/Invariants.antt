@@ -8,6 +8,9 @@ use Rattle.onward.proofs.RoomLaws.{Laying, laying-done, laying-more, laying-next
 use Rattle.onward.specs.Rooms.{Lays}
 use Rattle.listing.specs.Lines.{line_count, line_of, lines_from}
 use Rattle.listing.proofs.StepLaws.{lines_end, lines_step, some-line}
+use Rattle.listing.proofs.put_later_lines.Lts as lts
+use Rattle.listing.proofs.put_later_lines.Reads as reads
+use Rattle.listing.proofs.put_later_lines.Tie as tie
 use Rattle.listing.proofs.put_later_lines.Given as goal
 
 abbrev pub invariant-loop-k : goal.invariant-loop-k

@@ -9,10 +9,23 @@ use Rattle.onward.proofs.RoomLaws.{Laying, laying-last, laying-more, laying-next
 use Rattle.listing.specs.Lines.{line_count, line_of, lines_from, listing_of, no_lines}
 use Rattle.listing.proofs.StepLaws.{parts}
 use Rattle.listing.proofs.WholeLaws.{listed, listed-short}
+use Rattle.listing.proofs.put_lines.Lts as lts
+use Rattle.listing.proofs.put_lines.Reads as reads
+use Rattle.listing.proofs.put_lines.Tie as tie
 use Rattle.listing.proofs.put_lines.Goals as goal
 
+-- how things stand at places where nothing is asked
+abbrev After-put_at-arg-1 : Type 0
+After-put_at-arg-1 = lts.After-put_at-arg tie.the-claims reads.Pre reads.Post
+
+abbrev After-put_no_lines-arg-1 : Type 0
+After-put_no_lines-arg-1 = lts.After-put_no_lines-arg tie.the-claims reads.Pre reads.Post
+
+abbrev After-put_later_lines-arg-1 : Type 0
+After-put_later_lines-arg-1 = lts.After-put_later_lines-arg tie.the-claims reads.Pre reads.Post
+
 -- nothing was laid yet; then the first line; then those of refused events
-at_first : (c : goal.After-put_at-arg-1)
+at_first : (c : After-put_at-arg-1)
     → let a = c.before.before.before.before.args in
     let r = a.judgement in
     let nos = listed r a.circles a.book.now in
@@ -22,7 +35,7 @@ at_first c =
     let nos = listed a.judgement a.circles a.book.now in
     laying-same (laying-start 0 (listing_of a.judgement nos) a.room.now) (parts a.judgement nos)
 
-behind-first : (c : goal.After-put_no_lines-arg-1)
+behind-first : (c : After-put_no_lines-arg-1)
     → let a = c.before.before.before.before.before.before.before.before.args in
     let p = c.before.before.before.put_at-behind_first in
     let r = a.judgement in
@@ -34,7 +47,7 @@ behind-first c =
     let line = subst (λ (t : List ℕ). Lays 0 t a.room.now p.result p.new.1.1.0) c.before.before.before.before.before.line-first.ensures p.ensures in
     laying-more (line_of a.judgement 0) _ p.result p.new.1.1.0 (at_first c.before.before.before.before) line p.auto.1.1.0
 
-behind-no : (c : goal.After-put_later_lines-arg-1)
+behind-no : (c : After-put_later_lines-arg-1)
     → let a = c.before.before.before.before.before.before.before.before.before.before.before.before.args in
     let p = c.before.before.before.put_no_lines-behind_no in
     let r = a.judgement in
@@ -63,5 +76,5 @@ put_later_lines-requires c =
 
 pub returns : goal.returns
 returns c =
-    let p = c.before.before.put-later-lines in
+    let p = c.before.before.put_later_lines in
     laying-last _ p.result p.new.1.1.0 (behind-no c.before.before.before) p.ensures p.auto.1.1.0

@@ -20,7 +20,14 @@ use Rattle.onward.proofs.OnwardLaws.{long-refused, refused_none, refused-there}
 use Rattle.onward.proofs.RoomLaws.{nothing-laid}
 use Rattle.listing.specs.Lines.{most_listing, no_lines}
 use Rattle.listing.proofs.StepLaws.{nos-end, nos-none}
+use Rattle.listing.proofs.put_no_lines.Lts as lts
+use Rattle.listing.proofs.put_no_lines.Reads as reads
+use Rattle.listing.proofs.put_no_lines.Tie as tie
 use Rattle.listing.proofs.put_no_lines.Goals as goal
+
+-- how things stand at places where nothing is asked
+abbrev After-read_tables-read : Type 0
+After-read_tables-read = lts.After-read_tables tie.the-claims reads.Pre reads.Post
 
 pub returns-then-count-eq0 : goal.returns-then-count-eq0
 returns-then-count-eq0 c = let a = c.before.before.before.args in nothing-laid a.at a.room.now (nos-end a.count _ (omega arith))
@@ -31,13 +38,13 @@ returns-then-book-gt-BYTES c =
     nothing-laid a.at a.room.now (nos-none a.count (long-refused a.circles (edition_of a.book.now) a.book.now (omega arith)))
 
 -- the tables are read as those of the edition that the book names
-tables-are : (c : goal.After-read_tables-read) → let a = c.before.before.before.before.before.before.args in c.read_tables-read.result ≡ tables_by a.circles (edition_of a.book.now) a.book.now
+tables-are : (c : After-read_tables-read) → let a = c.before.before.before.before.before.before.args in c.read_tables-read.result ≡ tables_by a.circles (edition_of a.book.now) a.book.now
 tables-are c =
     let a = c.before.before.before.before.before.before.args in
     c.read_tables-read.ensures ∙ ap (λ (ed : Edition). tables_by a.circles ed a.book.now) c.before.edition_of-edition.ensures
 
 -- and the refused events are those that a book of that edition has from its first event on
-refused-are : (c : goal.After-read_tables-read) (start : ℕ) → length c.before.before.before.before.before.before.args.book.now ≤ most_bytes → c.read_tables-read.result.answer ≡ Read start
+refused-are : (c : After-read_tables-read) (start : ℕ) → length c.before.before.before.before.before.before.args.book.now ≤ most_bytes → c.read_tables-read.result.answer ≡ Read start
     → let a = c.before.before.before.before.before.before.args in
     refused_from c.read_tables-read.result.tables empty_state 0 (items_after c.before.edition_of-edition.result a.book.now start)
     ≡ refused_by a.circles (edition_of a.book.now) a.book.now
@@ -59,7 +66,7 @@ pub returns-in-Read : goal.returns-in-Read
 returns-in-Read c =
     let t = c.before.before.before.before.before.before.before.before in
     let a = t.before.before.before.before.before.before.args in
-    let p = c.before.before.put-no-lines-from in
+    let p = c.before.before.put_no_lines_from in
     subst (λ (l : List No). Lays a.at (no_lines (take a.count l)) a.room.now p.result p.new.1.1.1.1.1.1.0)
     (refused-are t _ (omega arith) c.before.before.before.before.before.answer-1.given.1) p.ensures
 

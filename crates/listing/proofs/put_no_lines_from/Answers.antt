@@ -21,10 +21,17 @@ use Rattle.onward.specs.declared.No.{No}
 use Rattle.onward.proofs.RoomLaws.{Laying, laying-done, laying-more, laying-next, laying-same, laying-start}
 use Rattle.listing.specs.Lines.{no_line, no_lines}
 use Rattle.listing.proofs.StepLaws.{nos-end, nos-none, nos-step}
+use Rattle.listing.proofs.put_no_lines_from.Lts as lts
+use Rattle.listing.proofs.put_no_lines_from.Reads as reads
+use Rattle.listing.proofs.put_no_lines_from.Tie as tie
 use Rattle.listing.proofs.put_no_lines_from.Goals as goal
 
+-- how things stand at places where nothing is asked
+abbrev In-Next : Type 0
+In-Next = lts.After-known_told tie.the-claims reads.Pre reads.Post goal.the-invariant-loop-left goal.the-decreases-loop-left
+
 -- the line of the next refused event, and those behind it
-to-come : (c : goal.In-Next) (tables : Tables) → Holds tables c.before.before.before.before.before.before.before.before.before.sheet_of-sheet.result
+to-come : (c : In-Next) (tables : Tables) → Holds tables c.before.before.before.before.before.before.before.before.before.sheet_of-sheet.result
     → let a = c.before.before.before.before.before.before.before.before.before.before.before.before.args in
     let l = c.before.before.before.before.before.before.before.before.loop-left in
     let ts = c.before.before.before.next_refused-found.new.1.1.1.0 in

@@ -21,6 +21,9 @@ use Rattle.onward.specs.declared.No.{No}
 use Rattle.onward.proofs.RoomLaws.{Laying, laying-done, laying-more, laying-next, laying-same, laying-start}
 use Rattle.listing.specs.Lines.{no_line, no_lines}
 use Rattle.listing.proofs.StepLaws.{nos-end, nos-none, nos-step}
+use Rattle.listing.proofs.put_no_lines_from.Lts as lts
+use Rattle.listing.proofs.put_no_lines_from.Reads as reads
+use Rattle.listing.proofs.put_no_lines_from.Tie as tie
 use Rattle.listing.proofs.put_no_lines_from.Given as goal
 
 abbrev pub invariant-loop-left : goal.invariant-loop-left

@@ -8,7 +8,7 @@ use borrow.Author.Rules.{rules}
 use Rattle.meeting.proofs.row_line.Goals as goal
 
 pub returns-in-BooksRead : goal.returns-in-BooksRead
-returns-in-BooksRead c = c.count-row.ensures ∙ ap (λ (r : Row). with_all [] (row_of c.before.before.before.before.args.totals r)) (sym c.before.before.enum_told-1.given.1)
+returns-in-BooksRead c = c.count_row.ensures ∙ ap (λ (r : Row). with_all [] (row_of c.before.before.before.before.args.totals r)) (sym c.before.before.enum_told-1.given.1)
 
 pub returns-in-BooksRefused : goal.returns-in-BooksRefused
 returns-in-BooksRefused c = c.count_row-in-BooksRefused.ensures ∙ ap (λ (r : Row). with_all [] (row_of c.before.before.before.before.args.totals r)) (sym c.before.before.enum_told-in-BooksRefused-1.given.1)
@@ -26,4 +26,4 @@ pub returns-in-StillOpen : goal.returns-in-StillOpen
 returns-in-StillOpen c = c.count_row-in-StillOpen.ensures ∙ ap (λ (r : Row). with_all [] (row_of c.before.before.before.before.args.totals r)) (sym c.before.before.enum_told-in-StillOpen-1.given.1)
 
 pub returns-in-OfThoseBegun : goal.returns-in-OfThoseBegun
-returns-in-OfThoseBegun c = c.share-row.ensures ∙ ap (λ (r : Share). with_all [] (share_row r)) c.before.share.ensures ∙ ap (λ (r : Row). with_all [] (row_of c.before.before.before.before.args.totals r)) (sym c.before.before.enum_told-in-OfThoseBegun-1.given.1)
+returns-in-OfThoseBegun c = c.share_row.ensures ∙ ap (λ (r : Share). with_all [] (share_row r)) c.before.share.ensures ∙ ap (λ (r : Row). with_all [] (row_of c.before.before.before.before.args.totals r)) (sym c.before.before.enum_told-in-OfThoseBegun-1.given.1)

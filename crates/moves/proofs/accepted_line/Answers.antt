@@ -7,7 +7,7 @@ use Rattle.moves.proofs.accepted_line.Goals as goal
 pub returns-then-k-eq0 : goal.returns-then-k-eq0
 returns-then-k-eq0 c =
     let a = c.before.before.before.before.before.before.before.before.before.args in
-    c.left-line.ensures
+    c.left_line.ensures
     ∙ accepted-left a.names.now a.ends.now a.steps.now a.lists.now a.judgement a.k (omega arith) c.before.left_of-left.result c.before.left_of-left.ensures
 
 pub returns : goal.returns

@@ -38,4 +38,4 @@ pub returns : goal.returns
 returns c =
     let a = c.before.before.before.before.before.before.before.args in
     let l = c.before.before.before.before.loop-i in
-    c.is-blank.ensures ∙ sym (l.invariant.1 ∙ begins-end a.word.now a.line.now l.i (omega arith) (omega arith))
+    c.is_blank.ensures ∙ sym (l.invariant.1 ∙ begins-end a.word.now a.line.now l.i (omega arith) (omega arith))

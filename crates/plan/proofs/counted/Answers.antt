@@ -10,14 +10,27 @@ use Rattle.plan.specs.Reading.{first_unclear}
 use Rattle.plan.specs.Passes.{no_counts}
 use Rattle.plan.proofs.EntryLaws.{end-within, entry_more, no-entries, name-le, unclear-on}
 use Rattle.plan.proofs.CountLaws.{Sum, sum-all, sum-none, sum_more, line-below, unclear-off, first-none, told-all, told_line}
+use Rattle.plan.proofs.counted.Lts as lts
+use Rattle.plan.proofs.counted.Reads as reads
+use Rattle.plan.proofs.counted.Tie as tie
 use Rattle.plan.proofs.counted.Goals as goal
 
-inside : (c : goal.After-line_end-end)
+-- how things stand at places where nothing is asked
+abbrev After-line_end-end : Type 0
+After-line_end-end = lts.After-line_end tie.the-claims reads.Pre reads.Post goal.the-invariant-loop-at goal.the-decreases-loop-at
+
+abbrev After-word_of-word : Type 0
+After-word_of-word = lts.After-word_of tie.the-claims reads.Pre reads.Post goal.the-invariant-loop-at goal.the-decreases-loop-at
+
+abbrev After-name_of-name : Type 0
+After-name_of-name = lts.After-name_of tie.the-claims reads.Pre reads.Post goal.the-invariant-loop-at goal.the-decreases-loop-at
+
+inside : (c : After-line_end-end)
     → (c.before.before.loop-at.at ≤ c.line_end-end.result) × (c.line_end-end.result ≤ length c.before.before.before.before.args.text.now)
 inside c = end-within c.before.before.before.before.args.text.now c.before.before.loop-at.at c.line_end-end.result c.line_end-end.ensures (omega arith)
 
 -- the line that a turn takes, and the lines behind it
-turn : (c : goal.After-word_of-word)
+turn : (c : After-word_of-word)
     → entries_of (drop c.before.before.before.before.loop-at.at c.before.before.before.before.before.before.args.text.now)
     ≡ entry_by c.word_of-word.result (name_of c.before.line_between-line.result.now) ∷ entries_of (drop (c.before.before.line_end-end.result + 1) c.before.before.before.before.before.before.args.text.now)
 turn c =
@@ -31,7 +44,7 @@ pub line_between-line-requires : goal.line_between-line-requires
 line_between-line-requires c = inside c
 
 -- the name is no longer than its line
-small : (c : goal.After-name_of-name)
+small : (c : After-name_of-name)
     → length c.name_of-name.result.now ≤ c.before.before.before.before.before.line_end-end.result - c.before.before.before.before.before.before.before.loop-at.at
 small c =
     let text = c.before.before.before.before.before.before.before.before.before.args.text.now in
@@ -46,7 +59,7 @@ returns-then-not_clear c =
     let t = c.before.before in
     told_line (entries_of text) l.number
     (l.invariant.7 ∙ ap (first_unclear l.number l.counts.moves) (turn t)
-    ∙ unclear-on (name_of t.before.line_between-line.result.now) (entries_of (drop (t.before.before.line_end-end.result + 1) text)) t.word_of-word.result l.number l.counts.moves (sym c.before.not-clear.ensures ∙ c.if-not_clear.true))
+    ∙ unclear-on (name_of t.before.line_between-line.result.now) (entries_of (drop (t.before.before.line_end-end.result + 1) text)) t.word_of-word.result l.number l.counts.moves (sym c.before.not_clear.ensures ∙ c.if-not_clear.true))
     (omega arith)
 
 pub with_line-next-requires : goal.with_line-next-requires
@@ -83,7 +96,7 @@ loop-at-preserved c =
       omega (arith, below.moves, ap (λ (n : Counts). n.moves) e),
       omega (arith, below.lists, ap (λ (n : Counts). n.lists) e),
       l.invariant.7 ∙ ap (first_unclear l.number l.counts.moves) q
-          ∙ unclear-off l.counts name rest w l.number (sym c.before.before.before.not-clear.ensures ∙ c.before.before.if-not_clear.false)
+          ∙ unclear-off l.counts name rest w l.number (sym c.before.before.before.not_clear.ensures ∙ c.before.before.if-not_clear.false)
           ∙ ap (λ (n : Counts). first_unclear (l.number + 1) n.moves rest) (sym e),
       l.invariant.8 ∙ ap (Sum l.counts) q ∙ sum_more l.counts name rest w ∙ ap (λ (n : Counts). Sum n rest) (sym e),
     )

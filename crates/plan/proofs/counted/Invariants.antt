@@ -10,6 +10,9 @@ use Rattle.plan.specs.Reading.{first_unclear}
 use Rattle.plan.specs.Passes.{no_counts}
 use Rattle.plan.proofs.EntryLaws.{end-within, entry_more, no-entries, name-le, unclear-on}
 use Rattle.plan.proofs.CountLaws.{Sum, sum-all, sum-none, sum_more, line-below, unclear-off, first-none, told-all, told_line}
+use Rattle.plan.proofs.counted.Lts as lts
+use Rattle.plan.proofs.counted.Reads as reads
+use Rattle.plan.proofs.counted.Tie as tie
 use Rattle.plan.proofs.counted.Given as goal
 
 abbrev pub invariant-loop-at : goal.invariant-loop-at

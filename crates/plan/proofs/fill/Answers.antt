@@ -58,6 +58,6 @@ returns c =
       (
         q.ensures.1.0 ∙ ap (λ (r : List ℕ). laid r p.result.names (ends_from p.result.bytes (names_in true es))) p.ensures.1.0
             ∙ ends-filled (names_in false es) (names_in true es) s.args.ends.now p.result.names p.result.bytes p.ensures.1.1.1 p.ensures.1.1.0 (omega (arith, k, m, s.requires.1.0.1)),
-        (c.before.before.before.before.before.before.put-steps.ensures, c.before.before.put-lists.ensures),
+        (c.before.before.before.before.before.before.put_steps.ensures, c.before.before.put_lists.ensures),
       ),
     )

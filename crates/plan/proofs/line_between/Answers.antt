@@ -4,4 +4,4 @@ use borrow.Author.Rules.{rules}
 use Rattle.plan.proofs.line_between.Goals as goal
 
 pub returns : goal.returns
-returns c = c.up-to-blanks.ensures ∙ ap up_to_blanks c.before.past_blanks-front.ensures
+returns c = c.up_to_blanks.ensures ∙ ap up_to_blanks c.before.past_blanks-front.ensures

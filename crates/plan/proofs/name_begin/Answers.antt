@@ -6,4 +6,4 @@ use Rattle.plan.proofs.name_begin.Goals as goal
 
 pub returns : goal.returns
 returns c =
-    let a = c.before.before.before.before.args in c.name-end.ensures ∙ begin-later a.names.now a.ends.now a.k (omega arith)
+    let a = c.before.before.before.before.args in c.name_end.ensures ∙ begin-later a.names.now a.ends.now a.k (omega arith)

@@ -8,4 +8,4 @@ pub returns-then-line-lt4 : goal.returns-then-line-lt4
 returns-then-line-lt4 c = name-short c.before.before.before.args.line.now (omega arith)
 
 pub returns : goal.returns
-returns c = let line = c.before.before.before.before.args.line.now in name_is line c.past-blanks.ensures (drop-whole line 4)
+returns c = let line = c.before.before.before.before.args.line.now in name_is line c.past_blanks.ensures (drop-whole line 4)

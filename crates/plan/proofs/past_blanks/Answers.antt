@@ -15,14 +15,14 @@ pub returns-then-not-is_blank : goal.returns-then-not-is_blank
 returns-then-not-is_blank c =
     let a = c.before.before.before.before.before.before.before.args in
     let l = c.before.before.before.before.before.loop-i in
-    let other = sym c.before.before.is-blank.ensures ∙ on-not c.before.before.is-blank.result-1 c.before.if-not-is_blank.true in
+    let other = sym c.before.before.is_blank.ensures ∙ on-not c.before.before.is_blank.result-1 c.before.if-not-is_blank.true in
     drop-whole a.line.now l.i ∙ sym (l.invariant.1 ∙ past_stop a.around a.line.now l.i (omega arith) other)
 
 pub loop-i-preserved : goal.loop-i-preserved
 loop-i-preserved c =
     let a = c.before.before.before.before.before.before.args in
     let l = c.before.before.before.before.loop-i in
-    let blank = sym c.before.is-blank.ensures ∙ off-not c.before.is-blank.result-1 c.if-not-is_blank.false in
+    let blank = sym c.before.is_blank.ensures ∙ off-not c.before.is_blank.result-1 c.if-not-is_blank.false in
     (omega arith, l.invariant.1 ∙ past_more a.around a.line.now l.i (omega arith) blank)
 
 pub returns : goal.returns

@@ -9,9 +9,16 @@ use Rattle.plan.specs.Reading.{move_above, lists_of}
 use Rattle.plan.specs.Passes.{laid}
 use Rattle.plan.proofs.LaidLaws.{laid_none, laid_cons}
 use Rattle.plan.proofs.EntryLaws.{end-within, entry_more, no-entries, lists-none, above-le, lists-move, lists-list, lists-other}
+use Rattle.plan.proofs.put_lists.Lts as lts
+use Rattle.plan.proofs.put_lists.Reads as reads
+use Rattle.plan.proofs.put_lists.Tie as tie
 use Rattle.plan.proofs.put_lists.Goals as goal
 
-inside : (c : goal.After-line_end-end)
+-- how things stand at places where nothing is asked
+abbrev After-line_end-end : Type 0
+After-line_end-end = lts.After-line_end tie.the-claims reads.Pre reads.Post goal.the-invariant-loop-at goal.the-decreases-loop-at
+
+inside : (c : After-line_end-end)
     → (c.before.before.loop-at.at ≤ c.line_end-end.result) × (c.line_end-end.result ≤ length c.before.before.before.before.before.args.text.now)
 inside c = end-within c.before.before.before.before.before.args.text.now c.before.before.loop-at.at c.line_end-end.result c.line_end-end.ensures (omega arith)
 
@@ -37,7 +44,7 @@ listed c =
     let text = c.before.before.before.before.before.before.before.before.before.before.before.before.args.text.now in
     let l = c.before.before.before.before.before.before.before.before.before.loop-at in
     let t = c.before.before.before.before.before in
-    ap (lists_of l.moves) (turn t) ∙ lists-list (name_of t.before.line_between-line.result.now) (entries_of (drop (t.before.before.line_end-end.result + 1) text)) t.word_of-word.result l.moves (sym c.before.before.is-list.ensures ∙ c.before.if-is_list.true)
+    ap (lists_of l.moves) (turn t) ∙ lists-list (name_of t.before.line_between-line.result.now) (entries_of (drop (t.before.before.line_end-end.result + 1) text)) t.word_of-word.result l.moves (sym c.before.before.is_list.ensures ∙ c.before.if-is_list.true)
 
 pub overflow_add-at : goal.overflow_add-at
 overflow_add-at c = let i = inside c.before.before in omega arith
@@ -100,7 +107,7 @@ loop-at-preserved c =
     let l = c.before.before.before.before.before.before.before.before.loop-at in
     let t = c.before.before.before.before in
     let i = inside c.before.before.before.before.before.before in
-    let q = ap (lists_of l.moves) (turn t) ∙ lists-other (name_of t.before.line_between-line.result.now) (entries_of (drop (t.before.before.line_end-end.result + 1) text)) t.word_of-word.result l.moves (sym c.before.before.before.is_move.ensures ∙ c.before.before.if-is_move.false) (sym c.before.is-list.ensures ∙ c.if-is_list.false) in (
+    let q = ap (lists_of l.moves) (turn t) ∙ lists-other (name_of t.before.line_between-line.result.now) (entries_of (drop (t.before.before.line_end-end.result + 1) text)) t.word_of-word.result l.moves (sym c.before.before.before.is_move.ensures ∙ c.before.before.if-is_move.false) (sym c.before.is_list.ensures ∙ c.if-is_list.false) in (
       omega arith,
       omega arith,
       l.invariant.2,

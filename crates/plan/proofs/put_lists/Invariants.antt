@@ -9,6 +9,9 @@ use Rattle.plan.specs.Reading.{move_above, lists_of}
 use Rattle.plan.specs.Passes.{laid}
 use Rattle.plan.proofs.LaidLaws.{laid_none, laid_cons}
 use Rattle.plan.proofs.EntryLaws.{end-within, entry_more, no-entries, lists-none, above-le, lists-move, lists-list, lists-other}
+use Rattle.plan.proofs.put_lists.Lts as lts
+use Rattle.plan.proofs.put_lists.Reads as reads
+use Rattle.plan.proofs.put_lists.Tie as tie
 use Rattle.plan.proofs.put_lists.Given as goal
 
 abbrev pub invariant-loop-at : goal.invariant-loop-at

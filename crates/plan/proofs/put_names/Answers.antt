@@ -9,9 +9,19 @@ use Rattle.plan.specs.Reading.{names_in, joined, ends_from}
 use Rattle.plan.specs.Passes.{laid}
 use Rattle.plan.proofs.LaidLaws.{laid_none, laid_cons, laid-append}
 use Rattle.plan.proofs.EntryLaws.{end-within, entry_more, no-entries, names-none, joined-none, joined-cons, ends-none, ends-cons, names-on, names-off}
+use Rattle.plan.proofs.put_names.Lts as lts
+use Rattle.plan.proofs.put_names.Reads as reads
+use Rattle.plan.proofs.put_names.Tie as tie
 use Rattle.plan.proofs.put_names.Goals as goal
 
-inside : (c : goal.After-line_end-end)
+-- how things stand at places where nothing is asked
+abbrev After-line_end-end : Type 0
+After-line_end-end = lts.After-line_end tie.the-claims reads.Pre reads.Post goal.the-invariant-loop-at goal.the-decreases-loop-at
+
+abbrev After-name_of-name : Type 0
+After-name_of-name = lts.After-name_of tie.the-claims reads.Pre reads.Post goal.the-invariant-loop-at goal.the-decreases-loop-at
+
+inside : (c : After-line_end-end)
     → (c.before.before.loop-at.at ≤ c.line_end-end.result) × (c.line_end-end.result ≤ length c.before.before.before.before.before.before.args.text.now)
 inside c = end-within c.before.before.before.before.before.before.args.text.now c.before.before.loop-at.at c.line_end-end.result c.line_end-end.ensures (omega arith)
 
@@ -33,7 +43,7 @@ pub overflow_add-at : goal.overflow_add-at
 overflow_add-at c = let i = inside c.before.before in omega arith
 
 -- a name stands before the names to come
-named : (c : goal.After-name_of-name)
+named : (c : After-name_of-name)
     → names_in c.before.before.before.before.before.before.before.before.before.before.before.args.lists (entries_of (drop c.before.before.before.before.before.before.before.loop-at.at c.before.before.before.before.before.before.before.before.before.before.before.args.text.now))
     ≡ c.name_of-name.result.now ∷ names_in c.before.before.before.before.before.before.before.before.before.before.before.args.lists (entries_of (drop (c.before.before.before.before.before.line_end-end.result + 1) c.before.before.before.before.before.before.before.before.before.before.before.args.text.now))
 named c =
@@ -41,11 +51,11 @@ named c =
     let text = a.text.now in
     let t = c.before.before.before in
     let rest = names_in a.lists (entries_of (drop (t.before.before.line_end-end.result + 1) text)) in
-    ap (names_in a.lists) (turn t) ∙ names-on (name_of t.before.line_between-line.result.now) (entries_of (drop (t.before.before.line_end-end.result + 1) text)) t.word_of-word.result a.lists (sym c.before.before.has-name.ensures ∙ c.before.if-has_name.true)
+    ap (names_in a.lists) (turn t) ∙ names-on (name_of t.before.line_between-line.result.now) (entries_of (drop (t.before.before.line_end-end.result + 1) text)) t.word_of-word.result a.lists (sym c.before.before.has_name.ensures ∙ c.before.if-has_name.true)
     ∙ ap (λ (x : List ℕ). x ∷ rest) (sym c.name_of-name.ensures)
 
 -- how many bytes the names to come have
-size : (c : goal.After-name_of-name)
+size : (c : After-name_of-name)
     → length (joined (names_in c.before.before.before.before.before.before.before.before.before.before.before.args.lists (entries_of (drop c.before.before.before.before.before.before.before.loop-at.at c.before.before.before.before.before.before.before.before.before.before.before.args.text.now))))
     ≡ length c.name_of-name.result.now + length (joined (names_in c.before.before.before.before.before.before.before.before.before.before.before.args.lists (entries_of (drop (c.before.before.before.before.before.line_end-end.result + 1) c.before.before.before.before.before.before.before.before.before.before.before.args.text.now))))
 size c =
@@ -55,7 +65,7 @@ size c =
     ap (λ (xs : List (List ℕ)). length (joined xs)) (named c) ∙ ap length (joined-cons name rest) ∙ length-append name (joined rest)
 
 -- there is room for it
-room : (c : goal.After-name_of-name)
+room : (c : After-name_of-name)
     → (c.before.before.before.before.before.before.before.loop-at.n + length c.name_of-name.result.now ≤ length c.before.before.before.before.before.before.before.loop-at.names)
     × (c.before.before.before.before.before.before.before.loop-at.n + length c.name_of-name.result.now ≤ 65536) × (c.before.before.before.before.before.before.before.loop-at.k < length c.before.before.before.before.before.before.before.loop-at.ends)
 room c =
@@ -119,7 +129,7 @@ loop-at-preserved c =
     let l = c.before.before.before.before.before.before.loop-at in
     let t = c.before.before in
     let i = inside c.before.before.before.before in
-    let q = ap (names_in a.lists) (turn t) ∙ names-off (name_of t.before.line_between-line.result.now) (entries_of (drop (t.before.before.line_end-end.result + 1) text)) t.word_of-word.result a.lists (sym c.before.has-name.ensures ∙ c.if-has_name.false) in (
+    let q = ap (names_in a.lists) (turn t) ∙ names-off (name_of t.before.line_between-line.result.now) (entries_of (drop (t.before.before.line_end-end.result + 1) text)) t.word_of-word.result a.lists (sym c.before.has_name.ensures ∙ c.if-has_name.false) in (
       omega arith,
       l.invariant.1,
       l.invariant.2,

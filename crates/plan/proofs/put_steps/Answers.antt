@@ -9,9 +9,16 @@ use Rattle.plan.specs.Reading.{steps_below, steps_of}
 use Rattle.plan.specs.Passes.{laid}
 use Rattle.plan.proofs.LaidLaws.{laid_none, laid_cons}
 use Rattle.plan.proofs.EntryLaws.{end-within, entry_more, no-entries, steps-none, steps-move, steps-other, below-le, entries-le}
+use Rattle.plan.proofs.put_steps.Lts as lts
+use Rattle.plan.proofs.put_steps.Reads as reads
+use Rattle.plan.proofs.put_steps.Tie as tie
 use Rattle.plan.proofs.put_steps.Goals as goal
 
-inside : (c : goal.After-line_end-end)
+-- how things stand at places where nothing is asked
+abbrev After-line_end-end : Type 0
+After-line_end-end = lts.After-line_end tie.the-claims reads.Pre reads.Post goal.the-invariant-loop-at goal.the-decreases-loop-at
+
+inside : (c : After-line_end-end)
     → (c.before.before.loop-at.at ≤ c.line_end-end.result) × (c.line_end-end.result ≤ length c.before.before.before.before.before.args.text.now)
 inside c = end-within c.before.before.before.before.before.args.text.now c.before.before.loop-at.at c.line_end-end.result c.line_end-end.ensures (omega arith)
 

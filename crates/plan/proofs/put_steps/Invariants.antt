@@ -9,6 +9,9 @@ use Rattle.plan.specs.Reading.{steps_below, steps_of}
 use Rattle.plan.specs.Passes.{laid}
 use Rattle.plan.proofs.LaidLaws.{laid_none, laid_cons}
 use Rattle.plan.proofs.EntryLaws.{end-within, entry_more, no-entries, steps-none, steps-move, steps-other, below-le, entries-le}
+use Rattle.plan.proofs.put_steps.Lts as lts
+use Rattle.plan.proofs.put_steps.Reads as reads
+use Rattle.plan.proofs.put_steps.Tie as tie
 use Rattle.plan.proofs.put_steps.Given as goal
 
 abbrev pub invariant-loop-at : goal.invariant-loop-at

@@ -7,9 +7,16 @@ use lib.ListN.{length, drop}
 use Rattle.plan.specs.Lines.{name_of, entry_by, entries_of}
 use Rattle.plan.specs.Reading.{steps_below}
 use Rattle.plan.proofs.EntryLaws.{end-within, entry_more, no-entries, below_none, below-move, below_step, below_other}
+use Rattle.plan.proofs.steps_below.Lts as lts
+use Rattle.plan.proofs.steps_below.Reads as reads
+use Rattle.plan.proofs.steps_below.Tie as tie
 use Rattle.plan.proofs.steps_below.Goals as goal
 
-inside : (c : goal.After-line_end-end)
+-- how things stand at places where nothing is asked
+abbrev After-line_end-end : Type 0
+After-line_end-end = lts.After-line_end tie.the-claims reads.Pre reads.Post goal.the-invariant-loop-at goal.the-decreases-loop-at
+
+inside : (c : After-line_end-end)
     → (c.before.before.loop-at.at ≤ c.line_end-end.result) × (c.line_end-end.result ≤ length c.before.before.before.before.args.text.now)
 inside c = end-within c.before.before.before.before.args.text.now c.before.before.loop-at.at c.line_end-end.result c.line_end-end.ensures (omega arith)
 
@@ -48,7 +55,7 @@ loop-at-preserved-then-is_step c =
     let l = c.before.before.before.before.before.before.before.before.loop-at in
     let t = c.before.before.before.before in
     let i = inside c.before.before.before.before.before.before in
-    let more = below_step (name_of t.before.line_between-line.result.now) (entries_of (drop (t.before.before.line_end-end.result + 1) c.before.before.before.before.before.before.before.before.before.before.args.text.now)) t.word_of-word.result (sym c.before.is-step.ensures ∙ c.if-is_step.true) in
+    let more = below_step (name_of t.before.line_between-line.result.now) (entries_of (drop (t.before.before.line_end-end.result + 1) c.before.before.before.before.before.before.before.before.before.before.args.text.now)) t.word_of-word.result (sym c.before.is_step.ensures ∙ c.if-is_step.true) in
     (omega arith, omega (arith, ap steps_below (turn t), more))
 
 pub loop-at-smaller : goal.loop-at-smaller
@@ -59,7 +66,7 @@ loop-at-preserved c =
     let l = c.before.before.before.before.before.before.before.before.loop-at in
     let t = c.before.before.before.before in
     let i = inside c.before.before.before.before.before.before in
-    let same = below_other (name_of t.before.line_between-line.result.now) (entries_of (drop (t.before.before.line_end-end.result + 1) c.before.before.before.before.before.before.before.before.before.before.args.text.now)) t.word_of-word.result (sym c.before.before.before.is_move.ensures ∙ c.before.before.if-is_move.false) (sym c.before.is-step.ensures ∙ c.if-is_step.false) in
+    let same = below_other (name_of t.before.line_between-line.result.now) (entries_of (drop (t.before.before.line_end-end.result + 1) c.before.before.before.before.before.before.before.before.before.before.args.text.now)) t.word_of-word.result (sym c.before.before.before.is_move.ensures ∙ c.before.before.if-is_move.false) (sym c.before.is_step.ensures ∙ c.if-is_step.false) in
     (omega arith, omega (arith, ap steps_below (turn t), same))
 
 pub returns : goal.returns

@@ -19,14 +19,14 @@ pub returns-then-not-is_blank : goal.returns-then-not-is_blank
 returns-then-not-is_blank c =
     let line = c.before.before.before.before.before.before.before.args.line.now in
     let l = c.before.before.before.before.before.loop-n in
-    let other = sym c.before.before.is-blank.ensures ∙ on-not c.before.before.is-blank.result c.before.if-not-is_blank.true in
+    let other = sym c.before.before.is_blank.ensures ∙ on-not c.before.before.is_blank.result c.before.if-not-is_blank.true in
     sym (l.invariant.1 ∙ up-stop line l.n (l.n - 1) (omega arith) (omega arith) other)
 
 pub loop-n-preserved : goal.loop-n-preserved
 loop-n-preserved c =
     let line = c.before.before.before.before.before.before.args.line.now in
     let l = c.before.before.before.before.loop-n in
-    let blank = sym c.before.is-blank.ensures ∙ off-not c.before.is-blank.result c.if-not-is_blank.false in
+    let blank = sym c.before.is_blank.ensures ∙ off-not c.before.is_blank.result c.if-not-is_blank.false in
     (omega arith, l.invariant.1 ∙ up_more line l.n (l.n - 1) (omega arith) (omega arith) blank)
 
 pub slice_bounds-result-end-2 : goal.slice_bounds-result-end-2

@@ -20,9 +20,9 @@ pub loop-i-preserved : goal.loop-i-preserved
 loop-i-preserved c =
     let ops = c.before.before.before.before.before.before.args.t1 in
     let l = c.before.before.before.before.loop-i in
-    let b = c.before.is-kept.result in
+    let b = c.before.is_kept.result in
     let test : (t : ℕ) → kept_by t (op_at ops l.i) ≡ (b && eqb (op_at ops l.i).responsible t) =
-    λ t. ap (λ (x : Bool). x && eqb (op_at ops l.i).responsible t) (sym c.before.is-kept.ensures)
+    λ t. ap (λ (x : Bool). x && eqb (op_at ops l.i).responsible t) (sym c.before.is_kept.ensures)
     in (
       omega arith,
       l.invariant.1,

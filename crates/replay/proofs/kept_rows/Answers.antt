@@ -28,7 +28,7 @@ loop-i-preserved c =
     let ops = c.before.before.before.before.before.before.before.before.before.args.t1 in
     let back : l.i - 1 + 1 ≡ l.i = omega arith in (
       omega arith,
-      c.sweep-one.ensures (size ops) (kept_at ops) (l.i - 1) (omega arith) (sym c.before.before.before.before.kept-op.ensures)
+      c.sweep_one.ensures (size ops) (kept_at ops) (l.i - 1) (omega arith) (sym c.before.before.before.before.kept-op.ensures)
           (subst⁻¹ (λ (k : ℕ). Swept (size ops) (kept_at ops) k l.users l.writers l.rows) back l.invariant.1),
     )
 

@@ -7,10 +7,17 @@ use Rattle.terms.specs.Limits.{most_transactions}
 use Rattle.ties.specs.declared.Ops.{Ops}
 use Rattle.replay.specs.Replay.{next_of}
 use Rattle.replay.proofs.CodeLaws.{Known, Begun, begun-none, begun_more, begun-done, begun-full, next-is}
+use Rattle.replay.proofs.order_of.Lts as lts
+use Rattle.replay.proofs.order_of.Reads as reads
+use Rattle.replay.proofs.order_of.Tie as tie
 use Rattle.replay.proofs.order_of.Goals as goal
 
+-- how things stand at places where nothing is asked
+abbrev After-lowest-t : Type 0
+After-lowest-t = lts.After-lowest tie.the-claims reads.Pre reads.Post goal.the-invariant-loop-count goal.the-decreases-loop-count
+
 -- the lowest of those that are free is the next
-next : (c : goal.After-lowest-t) (ops : Ops) → Known ops c.before.before.before.before.before.before.before.kept_rows-rows.result c.before.before.before.before.before.before.holders-left.result
+next : (c : After-lowest-t) (ops : Ops) → Known ops c.before.before.before.before.before.before.before.kept_rows-rows.result c.before.before.before.before.before.before.holders-left.result
     → c.lowest-t.result ≡ next_of ops (take c.before.before.before.before.before.loop-count.count c.before.before.before.before.before.loop-count.numbers)
 next c ops known =
     let l = c.before.before.before.before.before.loop-count in

@@ -7,6 +7,9 @@ use Rattle.terms.specs.Limits.{most_transactions}
 use Rattle.ties.specs.declared.Ops.{Ops}
 use Rattle.replay.specs.Replay.{next_of}
 use Rattle.replay.proofs.CodeLaws.{Known, Begun, begun-none, begun_more, begun-done, begun-full, next-is}
+use Rattle.replay.proofs.order_of.Lts as lts
+use Rattle.replay.proofs.order_of.Reads as reads
+use Rattle.replay.proofs.order_of.Tie as tie
 use Rattle.replay.proofs.order_of.Given as goal
 
 abbrev pub invariant-loop-count : goal.invariant-loop-count

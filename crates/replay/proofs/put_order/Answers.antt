@@ -6,9 +6,16 @@ use mathlib.Core.List.{List, ◌++◌}
 use lib.ListN.{length, drop}
 use Rattle.replay.specs.Replay.{order_of}
 use Rattle.replay.proofs.CodeLaws.{order-long, copy-small, copy_done}
+use Rattle.replay.proofs.put_order.Lts as lts
+use Rattle.replay.proofs.put_order.Reads as reads
+use Rattle.replay.proofs.put_order.Tie as tie
 use Rattle.replay.proofs.put_order.Goals as goal
 
-long : (c : goal.After-order_of-order) → c.order_of-order.result.count ≡ length (order_of c.before.before.args.ops)
+-- how things stand at places where nothing is asked
+abbrev After-order_of-order : Type 0
+After-order_of-order = lts.After-order_of tie.the-claims reads.Pre reads.Post
+
+long : (c : After-order_of-order) → c.order_of-order.result.count ≡ length (order_of c.before.before.args.ops)
 long c =
     let o = c.order_of-order in
     let whole : length o.result.numbers ≡ 64 = search rules in

@@ -19,7 +19,7 @@ pub loop-t-preserved : goal.loop-t-preserved
 loop-t-preserved c =
     let ts = c.before.before.before.before.before.args.t1 in
     let l = c.before.before.before.before.loop-t in
-    let test = c.before.is-active.ensures in (
+    let test = c.before.is_active.ensures in (
       omega arith,
       ⊎_elim
           (λ w. w.2 ∙ w.1.ensures ∙ set-of-in (active_in ts) l.t l.set l.invariant.1 (sym test ∙ w.0.taken))

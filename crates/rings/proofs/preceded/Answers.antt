@@ -15,7 +15,7 @@ returns-then-crossed c =
     let a = c.before.before.before.before.before.before.before.before.before.before.before.args in
     let l = c.before.before.before.before.before.before.before.before.before.before.loop-i in
     let q = c.before.before.before.before.before.before.before.op_in-q in
-    let live = sym c.before.before.before.before.is-gone.ensures ∙ on-not c.before.before.before.before.is-gone.result c.before.before.before.if-not-is_gone.true in
+    let live = sym c.before.before.before.before.is_gone.ensures ∙ on-not c.before.before.before.before.is_gone.result c.before.before.before.if-not-is_gone.true in
     free-met a.total (read_at a.ops.now) a.t l.i l.used l.written l.invariant.1 q.result q.ensures live (omega arith) c.before.before.if-b-t.true (sym c.before.crossed.ensures ∙ c.if-crossed.true)
 
 pub loop-i-preserved-else-crossed : goal.loop-i-preserved-else-crossed
@@ -23,7 +23,7 @@ loop-i-preserved-else-crossed c =
     let a = c.before.before.before.before.before.before.before.before.before.before.before.args in
     let l = c.before.before.before.before.before.before.before.before.before.before.loop-i in
     let q = c.before.before.before.before.before.before.before.op_in-q in
-    let live = sym c.before.before.before.before.is-gone.ensures ∙ on-not c.before.before.before.before.is-gone.result c.before.before.before.if-not-is_gone.true in
+    let live = sym c.before.before.before.before.is_gone.ensures ∙ on-not c.before.before.before.before.is_gone.result c.before.before.before.if-not-is_gone.true in
     (omega arith, free_own a.total (read_at a.ops.now) a.t l.i l.used l.written l.invariant.1 q.result q.ensures live c.before.before.if-b-t.true (sym c.before.crossed.ensures ∙ c.if-crossed.false))
 
 pub loop-i-preserved-else-b-t : goal.loop-i-preserved-else-b-t
@@ -31,15 +31,15 @@ loop-i-preserved-else-b-t c =
     let a = c.before.before.before.before.before.before.before.before.before.before.before.before.args in
     let l = c.before.before.before.before.before.before.before.before.before.before.before.loop-i in
     let q = c.before.before.before.before.before.before.before.before.op_in-q in
-    let live = sym c.before.before.before.before.before.is-gone.ensures ∙ on-not c.before.before.before.before.before.is-gone.result c.before.before.before.before.if-not-is_gone.true in
-    (omega arith, rw (c.before.before.with_member-used.ensures, c.with_some-written.ensures, c.before.is-write.ensures) (free_other a.total (read_at a.ops.now) a.t l.i l.used l.written l.invariant.1 q.result q.ensures live c.before.before.before.if-b-t.false))
+    let live = sym c.before.before.before.before.before.is_gone.ensures ∙ on-not c.before.before.before.before.before.is_gone.result c.before.before.before.before.if-not-is_gone.true in
+    (omega arith, rw (c.before.before.with_member-used.ensures, c.with_some-written.ensures, c.before.is_write.ensures) (free_other a.total (read_at a.ops.now) a.t l.i l.used l.written l.invariant.1 q.result q.ensures live c.before.before.before.if-b-t.false))
 
 pub loop-i-preserved : goal.loop-i-preserved
 loop-i-preserved c =
     let a = c.before.before.before.before.before.before.before.before.args in
     let l = c.before.before.before.before.before.before.before.loop-i in
     let q = c.before.before.before.before.op_in-q in
-    (omega arith, free-gone a.total (read_at a.ops.now) a.t l.i l.used l.written l.invariant.1 q.result q.ensures (sym c.before.is-gone.ensures ∙ off-not c.before.is-gone.result c.if-not-is_gone.false))
+    (omega arith, free-gone a.total (read_at a.ops.now) a.t l.i l.used l.written l.invariant.1 q.result q.ensures (sym c.before.is_gone.ensures ∙ off-not c.before.is_gone.result c.if-not-is_gone.false))
 
 pub returns : goal.returns
 returns c =

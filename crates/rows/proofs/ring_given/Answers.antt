@@ -12,5 +12,5 @@ returns c =
     let a = c.before.before.before.args in
     let all = c.before.before.size-all in
     let x = c.before.given_at-x in
-    c.ring-with.ensures
+    c.ring_with.ensures
     ∙ ap (λ (R : ℕ → ℕ → Bool). ring_with R (mem a.some) a.receiver) (order-given a.ops.now a.n all.result all.ensures a.q a.receiver x.result x.ensures)

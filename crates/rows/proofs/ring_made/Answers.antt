@@ -11,5 +11,5 @@ pub returns : goal.returns
 returns c =
     let a = c.before.before.before.args in
     let all = c.before.before.size-all in
-    c.ring-with.ensures
+    c.ring_with.ensures
     ∙ ap (λ (R : ℕ → ℕ → Bool). ring_with R (mem a.some) a.x.responsible) (order_made a.ops.now a.n all.result all.ensures a.x)

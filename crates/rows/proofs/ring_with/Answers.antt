@@ -10,7 +10,14 @@ use Rattle.ties.specs.Ties.{ties_of, ring_with}
 use Rattle.ties.proofs.TieLaws.{ties-small}
 use Rattle.rows.specs.Rows.{read_with, mem_at}
 use Rattle.rows.proofs.LedLaws.{ring-past, ring-none, ring-back, shared-by}
+use Rattle.rows.proofs.ring_with.Lts as lts
+use Rattle.rows.proofs.ring_with.Reads as reads
+use Rattle.rows.proofs.ring_with.Tie as tie
 use Rattle.rows.proofs.ring_with.Goals as goal
+
+-- how things stand at places where nothing is asked
+abbrev After-without-both : Type 0
+After-without-both = lts.After-without2 tie.the-claims reads.Pre reads.Post
 
 -- the rows are who stands before whom, so they tie transactions alone, and their rings are those of the order
 small : (c : goal.After-rows_with-rows) (a b : ℕ) → mem_at c.rows_with-rows.result a b ≡ true → (a < 64) × (b < 64)
@@ -23,7 +30,7 @@ of-order : (c : goal.After-rows_with-rows) → ring_with (mem_at c.rows_with-row
 of-order c =
     ap (λ (R : ℕ → ℕ → Bool). ring_with R (mem c.before.before.args.some) c.before.before.args.v) (fun_ext (λ a. fun_ext (λ k. c.rows_with-rows.ensures a k)))
 
-shared : (c : goal.After-without-both) (k : ℕ) → mem c.without-both.result k ≡ (mem c.before.before.led_from-after.result k && mem c.before.before.before.before.before.before.args.some k)
+shared : (c : After-without-both) (k : ℕ) → mem c.without-both.result k ≡ (mem c.before.before.led_from-after.result k && mem c.before.before.before.before.before.before.args.some k)
 shared c = shared-by c.before.before.led_from-after.result c.before.before.before.before.before.before.args.some c.before.without-rest.result c.without-both.result (less-members _ _ c.before.without-rest.result c.before.without-rest.ensures) (less-members _ _ c.without-both.result c.without-both.ensures)
 
 pub returns-then-v-ge-TRANSACTIONS : goal.returns-then-v-ge-TRANSACTIONS

@@ -28,5 +28,5 @@ returns c =
     let op = read_with a.ops.now a.giver a.receiver a.at a.x in
     swept_all a.total op _ _ _
     (c.sweep-3.ensures a.total op (omega arith) (λ i h l. rw (ne_eqb i a.at (λ e. omega arith)))
-    (c.before.before.before.before.sweep-one.ensures a.total op a.at (omega arith) (rw (eq-eqb a.at a.at refl))
+    (c.before.before.before.before.sweep_one.ensures a.total op a.at (omega arith) (rw (eq-eqb a.at a.at refl))
     (c.before.before.before.before.before.before.before.before.sweep-2.ensures a.total op (omega arith) (λ i h l. rw (ne_eqb i a.at (λ e. omega arith))) (swept_none a.total op))))

@@ -28,7 +28,7 @@ loop-i-preserved c =
     let back : l.i - 1 + 1 ≡ l.i = omega arith in (
       omega arith,
       omega arith,
-      λ n op h e s. c.sweep-one.ensures n op (l.i - 1) (omega arith) (e (l.i - 1) (omega arith) (omega arith) ∙ sym (c.before.before.before.before.handed_by-p.ensures ∙ ap (handed_by b.giver b.receiver) c.before.before.before.before.before.op_in-held.ensures))
+      λ n op h e s. c.sweep_one.ensures n op (l.i - 1) (omega arith) (e (l.i - 1) (omega arith) (omega arith) ∙ sym (c.before.before.before.before.handed_by-p.ensures ∙ ap (handed_by b.giver b.receiver) c.before.before.before.before.before.op_in-held.ensures))
           (subst⁻¹ (λ (k : ℕ). Swept n op k l.users l.writers l.rows) back (l.invariant.2 n op h e s)),
     )
 

@@ -25,7 +25,7 @@ returns-then-not-some_undo_active c tables holds =
     let a = c.before.before.before.before.args in
     let n = c.before.before.count_in-owned in
     let ts = transactions_in a.transactions.now in
-    nobody-active (undo_on a.sheet.now ts) n.result (sym c.before.some-undo-active.ensures ∙ on-not c.before.some-undo-active.result c.if-not-some_undo_active.true)
+    nobody-active (undo_on a.sheet.now ts) n.result (sym c.before.some_undo_active.ensures ∙ on-not c.before.some_undo_active.result c.if-not-some_undo_active.true)
     ∙ undos-held a.sheet.now ts n.result tables holds n.ensures
 
 pub loop-t-init : goal.loop-t-init
@@ -37,7 +37,7 @@ loop-t-preserved c =
     let l = c.before.before.before.before.before.loop-t in
     let ts = transactions_in a.transactions.now in
     let f = undo_on a.sheet.now ts in
-    let active = c.before.is-active.ensures ∙ ap is_active (c.before.before.phase_in-phase.ensures ∙ sym (phase-low a.transactions.now l.t (omega (arith, l.invariant.2)))) in (
+    let active = c.before.is_active.ensures ∙ ap is_active (c.before.before.phase_in-phase.ensures ∙ sym (phase-low a.transactions.now l.t (omega (arith, l.invariant.2)))) in (
       omega arith,
       ⊎_elim
           (λ w.

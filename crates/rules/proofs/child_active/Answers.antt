@@ -26,8 +26,8 @@ loop-t-preserved c =
     let a = c.before.before.before.before.before.before.before.before.args in
     let l = c.before.before.before.before.before.before.before.loop-t in
     let ts = transactions_in a.transactions.now in
-    let under = c.before.is-under.ensures ∙ ap (is_under a.m) (c.before.before.before.before.parent_in_lem.ensures ∙ sym (parent-low a.transactions.now l.t (omega arith))) in
-    let active = c.is-active.ensures ∙ ap is_active (c.before.before.phase_in-phase.ensures ∙ sym (phase-low a.transactions.now l.t (omega arith))) in
+    let under = c.before.is_under.ensures ∙ ap (is_under a.m) (c.before.before.before.before.parent_in_lem.ensures ∙ sym (parent-low a.transactions.now l.t (omega arith))) in
+    let active = c.is_active.ensures ∙ ap is_active (c.before.before.phase_in-phase.ensures ∙ sym (phase-low a.transactions.now l.t (omega arith))) in
     (omega arith, ap₂ ◌||◌ l.invariant.1 (ap₂ ◌&&◌ under active) ∙ sym (any-more l.t (active_child ts a.m)))
 
 pub returns : goal.returns

@@ -22,7 +22,7 @@ returns-then-kind_bars c tables holds =
     let l = c.before.before.before.before.before.before.before.before.before.loop-i in
     let d = c.before.before.before.before.before.before.dependency_in-d in
     let bars = bars_on a.begins a.sheet.now (transactions_in a.transactions.now) a.t in
-    let here = own-dependent a.begins (transactions_in a.transactions.now) a.t d.result c.before.before.before.before.if-dependent-t.true c.before.before.phase_at-phase.ensures c.before.kind-bars.ensures in
+    let here = own-dependent a.begins (transactions_in a.transactions.now) a.t d.result c.before.before.before.before.if-dependent-t.true c.before.before.phase_at-phase.ensures c.before.kind_bars.ensures in
     search-hit bars c.before.before.before.before.before.before.before.before.before.before.count_in-n.result l.i (here ∙ ap (barred_by a.begins (transactions_in a.transactions.now) a.t) d.ensures) c.if-kind_bars.true (omega arith)
     ∙ bars-held a.begins a.sheet.now (transactions_in a.transactions.now) a.t c.before.before.before.before.before.before.before.before.before.before.count_in-n.result tables holds l.invariant.1
 

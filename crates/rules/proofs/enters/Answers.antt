@@ -10,7 +10,7 @@ use Rattle.rules.proofs.enters.Goals as goal
 pub returns-then-t-lt-TRANSACTIONS : goal.returns-then-t-lt-TRANSACTIONS
 returns-then-t-lt-TRANSACTIONS c =
     let a = c.before.before.before.args in
-    ap (λ (x : ℕ). transactions_in (set a.transactions.now a.t x)) c.with-phase.ensures
+    ap (λ (x : ℕ). transactions_in (set a.transactions.now a.t x)) c.with_phase.ensures
     ∙ entered-in a.transactions.now a.t a.phase (omega arith)
 
 pub returns-else-t-lt-TRANSACTIONS : goal.returns-else-t-lt-TRANSACTIONS

@@ -8,4 +8,4 @@ pub returns-then-t-ge-TRANSACTIONS : goal.returns-then-t-ge-TRANSACTIONS
 returns-then-t-ge-TRANSACTIONS c = sym (phase-past c.before.args.transactions.now c.before.args.t (omega arith))
 
 pub returns : goal.returns
-returns c = let a = c.before.before.before.args in c.phase-in.ensures ∙ sym (phase-low a.transactions.now a.t (omega arith))
+returns c = let a = c.before.before.before.args in c.phase_in.ensures ∙ sym (phase-low a.transactions.now a.t (omega arith))

@@ -16,7 +16,7 @@ under_in-requires c = omega arith
 pub returns-then-t-lt-TRANSACTIONS : goal.returns-then-t-lt-TRANSACTIONS
 returns-then-t-lt-TRANSACTIONS c =
     let a = c.before.before.before.before.args in
-    ap (λ (x : ℕ). transactions_in (set a.transactions.now a.t x)) c.under-in.ensures
+    ap (λ (x : ℕ). transactions_in (set a.transactions.now a.t x)) c.under_in.ensures
     ∙ spawned-in a.transactions.now a.m a.t (omega arith) (omega arith)
 
 pub returns-else-t-lt-TRANSACTIONS : goal.returns-else-t-lt-TRANSACTIONS

@@ -12,7 +12,7 @@ returns-then-reads_on c =
     let a = c.before.before.before.before.before.before.before.before.before.args in
     let list = a.list.now in
     let circles = c.before.before.before.before.circles_in-circles in
-    let fill = c.before.before.fill-refused in
+    let fill = c.before.before.fill_refused in
     let all = refused-on a.way a.book.now circles.result circles.ensures (sym c.before.before.before.before.before.before.reads_on.ensures ∙ c.before.before.before.before.before.if-reads_on.true) in
     (fill.ensures.0 ∙ ap (λ (l : List No). length (fitting a.skip (length list) l)) all, fill.ensures.1 ∙ ap (λ (l : List No). listed_in list (fitting a.skip (length list) l)) all)
 

@@ -13,4 +13,4 @@ pub returns-then-line-at : goal.returns-then-line-at
 returns-then-line-at c = blank_none c.before.before.args.line.now c.before.before.args.at (omega arith)
 
 pub returns : goal.returns
-returns c = c.is-blank.ensures ∙ blank-some c.before.before.before.before.args.line.now c.before.before.before.before.args.at (omega arith)
+returns c = c.is_blank.ensures ∙ blank-some c.before.before.before.before.args.line.now c.before.before.before.before.args.at (omega arith)

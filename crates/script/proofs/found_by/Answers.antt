@@ -15,7 +15,7 @@ use Rattle.script.proofs.found_by.Goals as goal
 
 -- src/lib.rt:332:17
 pub returns-then-not-blank_at : goal.returns-then-not-blank_at
-returns-then-not-blank_at c = blank-missing c.before.before.before.before.before.before.args.b (drop c.before.before.before.before.before.before.args.at c.before.before.before.before.before.before.args.line.now) (sym c.before.blank-at.ensures ∙ on-not c.before.blank-at.result c.if-not-blank_at.true) ∙ found_by_sign _ _ _ c.before.before.before.before.sign_of-sign.ensures c.before.before.enum_told-in-Blank-1.given.1 (drop c.before.before.before.before.before.before.args.at c.before.before.before.before.before.before.args.line.now)
+returns-then-not-blank_at c = blank-missing c.before.before.before.before.before.before.args.b (drop c.before.before.before.before.before.before.args.at c.before.before.before.before.before.before.args.line.now) (sym c.before.blank_at.ensures ∙ on-not c.before.blank_at.result c.if-not-blank_at.true) ∙ found_by_sign _ _ _ c.before.before.before.before.sign_of-sign.ensures c.before.before.enum_told-in-Blank-1.given.1 (drop c.before.before.before.before.before.before.args.at c.before.before.before.before.before.before.args.line.now)
 
 -- src/lib.rt:339:17
 pub returns-then-not-stands_at : goal.returns-then-not-stands_at
@@ -35,7 +35,7 @@ returns-in-Number c = c.numeral.ensures ∙ found_by_sign _ _ _ c.before.before.
 
 -- src/lib.rt:323:1
 pub returns-else-not-blank_at : goal.returns-else-not-blank_at
-returns-else-not-blank_at c = blank-found c.before.before.before.before.before.before.before.args.b (drop c.before.before.before.before.before.before.before.args.at c.before.before.before.before.before.before.before.args.line.now) _ (sym c.before.before.blank-at.ensures ∙ off-not c.before.before.blank-at.result c.before.if-not-blank_at.false) c.past_blanks-next.ensures ∙ found_by_sign _ _ _ c.before.before.before.before.before.sign_of-sign.ensures c.before.before.before.enum_told-in-Blank-1.given.1 (drop c.before.before.before.before.before.before.before.args.at c.before.before.before.before.before.before.before.args.line.now)
+returns-else-not-blank_at c = blank-found c.before.before.before.before.before.before.before.args.b (drop c.before.before.before.before.before.before.before.args.at c.before.before.before.before.before.before.before.args.line.now) _ (sym c.before.before.blank_at.ensures ∙ off-not c.before.before.blank_at.result c.before.if-not-blank_at.false) c.past_blanks-next.ensures ∙ found_by_sign _ _ _ c.before.before.before.before.before.sign_of-sign.ensures c.before.before.before.enum_told-in-Blank-1.given.1 (drop c.before.before.before.before.before.before.before.args.at c.before.before.before.before.before.before.before.args.line.now)
 
 -- src/lib.rt:323:1
 pub returns-else-not-stands_at : goal.returns-else-not-stands_at

@@ -23,11 +23,11 @@ returns-then-line-at c = sym (figure-none c.before.before.args.line.now c.before
 
 -- src/lib.rt:300:9
 pub returns-then-not-is_figure : goal.returns-then-not-is_figure
-returns-then-not-is_figure c = sym (figure-not c.before.before.before.before.before.args.line.now c.before.before.before.before.before.args.at (omega arith) (sym c.before.is-figure.ensures ∙ on-not c.before.is-figure.result c.if-not-is_figure.true))
+returns-then-not-is_figure c = sym (figure-not c.before.before.before.before.before.args.line.now c.before.before.before.before.before.args.at (omega arith) (sym c.before.is_figure.ensures ∙ on-not c.before.is_figure.result c.if-not-is_figure.true))
 
 -- src/lib.rt:304:5
 pub loop-i-init : goal.loop-i-init
-loop-i-init c = (omega arith, figure-some c.before.before.before.before.before.args.line.now c.before.before.before.before.before.args.at (omega arith) (sym c.before.is-figure.ensures ∙ off-not c.before.is-figure.result c.if-not-is_figure.false))
+loop-i-init c = (omega arith, figure-some c.before.before.before.before.before.args.line.now c.before.before.before.before.before.args.at (omega arith) (sym c.before.is_figure.ensures ∙ off-not c.before.is_figure.result c.if-not-is_figure.false))
 
 -- src/lib.rt:307:13
 pub returns-then-not-is_figure-2 : goal.returns-then-not-is_figure-2

@@ -20,14 +20,24 @@ use Rattle.script.proofs.Due.first.Reads as first_reads
 use Rattle.script.proofs.Due.letter.Reads as letter-reads
 use Rattle.script.proofs.field.Reads as field-reads
 use Rattle.script.proofs.line_says.Reads as line-says-reads
+use Rattle.script.proofs.read.Lts as lts
+use Rattle.script.proofs.read.Reads as reads
+use Rattle.script.proofs.read.Tie as tie
 use Rattle.script.proofs.read.Goals as goal
 
+-- how things stand at places where nothing is asked
+abbrev After-line_end-end : Type 0
+After-line_end-end = lts.After-line_end tie.the-claims reads.Pre reads.Post goal.the-invariant-loop-at goal.the-decreases-loop-at
+
+abbrev After-line_says-line : Type 0
+After-line_says-line = lts.After-line_says tie.the-claims reads.Pre reads.Post goal.the-invariant-loop-at goal.the-decreases-loop-at
+
 -- the line of a turn ends within the text
-inside : (c : goal.After-line_end-end) → (c.before.before.loop-at.at ≤ c.line_end-end.result) × (c.line_end-end.result ≤ length c.before.before.before.before.before.before.before.before.args.text.now)
+inside : (c : After-line_end-end) → (c.before.before.loop-at.at ≤ c.line_end-end.result) × (c.line_end-end.result ≤ length c.before.before.before.before.before.before.before.before.args.text.now)
 inside c = end-within c.before.before.before.before.before.before.before.before.args.text.now c.before.before.loop-at.at c.line_end-end.result c.line_end-end.ensures (omega arith)
 
 -- what it says
-said : (c : goal.After-line_says-line)
+said : (c : After-line_says-line)
     → line_in c.line_says-line.result c.line_says-line.new.1.1.0
     ≡ line_says (letter_of c.before.before.before.before.before.before.loop-at.due.stage c.before.before.before.before.before.before.loop-at.due.edition) (take (c.before.before.before.before.line_end-end.result - c.before.before.before.before.before.before.loop-at.at) (drop c.before.before.before.before.before.before.loop-at.at c.before.before.before.before.before.before.before.before.before.before.before.before.args.text.now)) (take c.before.before.before.before.before.before.loop-at.n c.before.before.before.before.before.before.loop-at.room)
 said c =

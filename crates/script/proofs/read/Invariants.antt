@@ -20,6 +20,9 @@ use Rattle.script.proofs.Due.first.Reads as first_reads
 use Rattle.script.proofs.Due.letter.Reads as letter-reads
 use Rattle.script.proofs.field.Reads as field-reads
 use Rattle.script.proofs.line_says.Reads as line-says-reads
+use Rattle.script.proofs.read.Lts as lts
+use Rattle.script.proofs.read.Reads as reads
+use Rattle.script.proofs.read.Tie as tie
 use Rattle.script.proofs.read.Given as goal
 
 abbrev pub invariant-loop-at : goal.invariant-loop-at

@@ -23,10 +23,17 @@ use Rattle.script.proofs.Due.after.Reads as after-reads
 use Rattle.script.proofs.Due.first.Reads as first_reads
 use Rattle.script.proofs.Due.letter.Reads as letter-reads
 use Rattle.script.proofs.first_line.Reads as first-line-reads
+use Rattle.script.proofs.show.Lts as lts
+use Rattle.script.proofs.show.Reads as reads
+use Rattle.script.proofs.show.Tie as tie
 use Rattle.script.proofs.show.Goals as goal
 
+-- how things stand at places where nothing is asked
+abbrev After-first_line-line : Type 0
+After-first_line-line = lts.After-first_line tie.the-claims reads.Pre reads.Post goal.the-invariant-loop-at goal.the-decreases-loop-at
+
 -- the line of a turn
-line : (c : goal.After-first_line-line)
+line : (c : After-first_line-line)
     → (text_of c.first_line-line.result.text ≡ shown (form_due c.before.before.before.before.loop-at.due (drop c.before.before.before.before.loop-at.at c.before.before.before.before.before.before.before.before.args.fields.now)) (drop c.before.before.before.before.loop-at.at c.before.before.before.before.before.before.before.before.args.fields.now) ++ line_feed)
     × ((c.first_line-line.result.fields ≡ count_of (form_due c.before.before.before.before.loop-at.due (drop c.before.before.before.before.loop-at.at c.before.before.before.before.before.before.before.before.args.fields.now)))
     × (c.first_line-line.result.loose ≡ allows (form_due c.before.before.before.before.loop-at.due (drop c.before.before.before.before.loop-at.at c.before.before.before.before.before.before.before.before.args.fields.now)) loose_letter))

@@ -23,6 +23,9 @@ use Rattle.script.proofs.Due.after.Reads as after-reads
 use Rattle.script.proofs.Due.first.Reads as first_reads
 use Rattle.script.proofs.Due.letter.Reads as letter-reads
 use Rattle.script.proofs.first_line.Reads as first-line-reads
+use Rattle.script.proofs.show.Lts as lts
+use Rattle.script.proofs.show.Reads as reads
+use Rattle.script.proofs.show.Tie as tie
 use Rattle.script.proofs.show.Given as goal
 
 abbrev pub invariant-loop-at : goal.invariant-loop-at

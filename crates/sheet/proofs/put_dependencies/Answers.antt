@@ -15,11 +15,11 @@ pub loop-i-preserved : goal.loop-i-preserved
 loop-i-preserved c =
     let a = c.before.before.before.before.before.args in
     let l = c.before.before.before.loop-i in
-    let x = c.dependency-code.result in (
+    let x = c.dependency_code.result in (
       omega arith,
       l.invariant.1,
       length-set l.sheet (most_transactions + l.i) x ∙ l.invariant.2,
-      dependencies-more a.t2 l.i l.sheet x l.invariant.3 (omega arith) c.dependency-code.ensures,
+      dependencies-more a.t2 l.i l.sheet x l.invariant.3 (omega arith) c.dependency_code.ensures,
       kept_more a.sheet.now l.sheet l.i x l.invariant.4,
     )
 

@@ -27,7 +27,7 @@ pub loop-t-preserved-then-k-own : goal.loop-t-preserved-then-k-own
 loop-t-preserved-then-k-own c =
     let a = c.before.before.before.before.before.before.before.args in
     let l = c.before.before.before.before.before.loop-t in
-    let x = c.place-code.result in
+    let x = c.place_code.result in
     let full : length a.t2.steps ≡ most_sagas = search rules in
     let here = passed_here a.t2 full l.i l.t l.first (l.invariant.5 l.t (omega arith)) (omega arith) (omega arith) in (
       omega arith,
@@ -38,7 +38,7 @@ loop-t-preserved-then-k-own c =
       λ u h. l.invariant.5 u (omega arith),
       λ few.
           sorts-more a.t2 l.t l.sheet x (l.invariant.6 few) (omega arith)
-          (c.place-code.ensures (subst⁻¹ SmallSort here (sort-small a.t2 few l.t)) ∙ here),
+          (c.place_code.ensures (subst⁻¹ SmallSort here (sort-small a.t2 few l.t)) ∙ here),
     )
 
 pub loop-t-preserved-else-k-own : goal.loop-t-preserved-else-k-own
@@ -59,7 +59,7 @@ pub loop-t-preserved : goal.loop-t-preserved
 loop-t-preserved c =
     let a = c.before.before.before.before.before.args in
     let l = c.before.before.before.loop-t in
-    let x = c.rest-code.result in
+    let x = c.rest_code.result in
     let full : length a.t2.steps ≡ most_sagas = search rules in (
       omega arith,
       omega arith,
@@ -69,7 +69,7 @@ loop-t-preserved c =
       λ u h. l.invariant.5 u (omega arith),
       λ few.
           sorts-more a.t2 l.t l.sheet x (l.invariant.6 few) (omega arith)
-          (c.rest-code.ensures ∙ passed-rest a.t2 full l.i l.t l.first (l.invariant.5 l.t (omega arith)) (omega arith) (omega arith)),
+          (c.rest_code.ensures ∙ passed-rest a.t2 full l.i l.t l.first (l.invariant.5 l.t (omega arith)) (omega arith) (omega arith)),
     )
 
 pub returns : goal.returns

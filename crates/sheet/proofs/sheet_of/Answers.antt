@@ -12,8 +12,8 @@ pub returns : goal.returns
 returns c few =
     let b = c.before.before.before.before.before in
     let tables = b.before.before.before.args.tables in
-    let sorts = c.before.before.before.put-sorts in
-    let entries = c.before.put-dependencies in
+    let sorts = c.before.before.before.put_sorts in
+    let entries = c.before.put_dependencies in
     let full : length tables.steps ≡ most_sagas = search rules in
     counted-holds tables few entries.new.0 entries.ensures.0
     b.before.before.object_count-objects.result b.before.dependency_count-declared.result b.saga_at-past.result.first

@@ -11,4 +11,4 @@ returns-then-t-ge-TRANSACTIONS c = rw (le-ltb c.before.args.t most_transactions 
 
 pub returns : goal.returns
 unfolding sort_at sort_in
-returns c = rw (lt-ltb c.before.before.before.args.t most_transactions (omega arith)) c.sort-by.ensures
+returns c = rw (lt-ltb c.before.before.before.args.t most_transactions (omega arith)) c.sort_by.ensures

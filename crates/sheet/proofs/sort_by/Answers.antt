@@ -3,16 +3,16 @@ use borrow.Author.Tests.{ne_eqb}
 use Rattle.sheet.proofs.sort_by.Goals as goal
 
 pub returns-in-1 : goal.returns-in-1
-returns-in-1 c = rw c.in_default.keys1
+returns-in-1 c = rw c.in-1.keys1
 
 pub returns-in-2 : goal.returns-in-2
-returns-in-2 c = rw c.in_default.keys2
+returns-in-2 c = rw c.in-2.keys2
 
 pub returns-in-3 : goal.returns-in-3
-returns-in-3 c = rw c.in_default.keys3
+returns-in-3 c = rw c.in-3.keys3
 
 pub returns-in-4 : goal.returns-in-4
-returns-in-4 c = rw c.in_default.keys4
+returns-in-4 c = rw c.in-4.keys4
 
 pub returns-in_default : goal.returns-in_default
 returns-in_default c =

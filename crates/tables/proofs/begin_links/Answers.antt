@@ -16,7 +16,14 @@ use lib.ListN.{length, length-set, get_or, set, replicate, get_or-replicate, len
 use Rattle.terms.specs.Limits.{most_transactions, most_dependencies}
 use Rattle.sets.proofs.RowLaws.{Holds}
 use Rattle.tables.proofs.CircleLaws.{linked_by, links-none, links-all, links-in, links-out}
+use Rattle.tables.proofs.begin_links.Lts as lts
+use Rattle.tables.proofs.begin_links.Reads as reads
+use Rattle.tables.proofs.begin_links.Tie as tie
 use Rattle.tables.proofs.begin_links.Goals as goal
+
+-- how things stand at places where nothing is asked
+abbrev Then-is_begin_kind-d : Type 0
+Then-is_begin_kind-d = lts.Then1 tie.the-claims reads.Pre reads.Post goal.the-invariant-loop-i goal.the-decreases-loop-i
 
 zeros : (d : ℕ) → ◌≡◌ {A = ℕ} (get_or (replicate most_transactions 0) d 0) 0
 zeros d =
@@ -31,11 +38,11 @@ pub loop-i-init : goal.loop-i-init
 loop-i-init c = (omega arith, c.dependency_count-n.ensures, refl, links-none c.before.args.t1 (replicate most_transactions 0) zeros)
 
 -- where the test held, the dependent is a transaction
-low : (c : goal.Then-is_begin_kind-d)
+low : (c : Then-is_begin_kind-d)
     → (dependency_at c.before.before.before.before.before.before.before.before.args.t1 c.before.before.before.before.before.before.loop-i.i).dependent < most_transactions
 low c =
     let x = dependency_at c.before.before.before.before.before.before.before.before.args.t1 c.before.before.before.before.before.before.loop-i.i in
-    ltb-true x.dependent most_transactions (on_and c.before.is-begin-kind.result (ltb x.dependent most_transactions) c.if-is_begin_kind-d.true).1
+    ltb-true x.dependent most_transactions (on_and c.before.is_begin_kind.result (ltb x.dependent most_transactions) c.if-is_begin_kind-d.true).1
 
 pub bounds-links-d : goal.bounds-links-d
 bounds-links-d c = low c
@@ -51,8 +58,8 @@ loop-i-preserved c =
     let l = c.before.before.before.before.before.before.loop-i in
     let tables = c.before.before.before.before.before.before.before.before.args.t1 in
     let x = dependency_at tables l.i in
-    let told : (c.before.is-begin-kind.result && ltb x.dependent most_transactions) ≡ (is_begin_kind x.kind && ltb x.dependent most_transactions) =
-    ap (λ (b : Bool). b && ltb x.dependent most_transactions) c.before.is-begin-kind.ensures in
+    let told : (c.before.is_begin_kind.result && ltb x.dependent most_transactions) ≡ (is_begin_kind x.kind && ltb x.dependent most_transactions) =
+    ap (λ (b : Bool). b && ltb x.dependent most_transactions) c.before.is_begin_kind.ensures in
     let both =
     ⊎_elim
     (λ w. subst⁻¹ (Kept tables l.i) (w.2 ∙ ap (set l.links x.dependent) w.1.ensures)

@@ -16,6 +16,9 @@ use lib.ListN.{length, length-set, get_or, set, replicate, get_or-replicate, len
 use Rattle.terms.specs.Limits.{most_transactions, most_dependencies}
 use Rattle.sets.proofs.RowLaws.{Holds}
 use Rattle.tables.proofs.CircleLaws.{linked_by, links-none, links-all, links-in, links-out}
+use Rattle.tables.proofs.begin_links.Lts as lts
+use Rattle.tables.proofs.begin_links.Reads as reads
+use Rattle.tables.proofs.begin_links.Tie as tie
 use Rattle.tables.proofs.begin_links.Given as goal
 
 -- the first i entries are in the sets

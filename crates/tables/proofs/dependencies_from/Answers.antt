@@ -10,22 +10,32 @@ use Rattle.tables.specs.Dependencies.{entry_holds}
 use Rattle.tables.specs.Reading.{entry_at, dependencies_from}
 use Rattle.tables.proofs.DependencyLaws.{Allowed, on-allowed, on-holds}
 use Rattle.tables.proofs.ReadingLaws.{entries-end, entries-stop, entries-bad, entries-more}
+use Rattle.tables.proofs.dependencies_from.Lts as lts
+use Rattle.tables.proofs.dependencies_from.Reads as reads
+use Rattle.tables.proofs.dependencies_from.Tie as tie
 use Rattle.tables.proofs.dependencies_from.Goals as goal
 
+-- how things stand at places where nothing is asked
+abbrev In-Declares : Type 0
+In-Declares = lts.After-known_told tie.the-claims reads.Pre reads.Post goal.the-invariant-loop-i goal.the-decreases-loop-i
+
+abbrev Else-not-holds : Type 0
+Else-not-holds = lts.Else1 tie.the-claims reads.Pre reads.Post goal.the-invariant-loop-i goal.the-decreases-loop-i
+
 -- in a turn, once the entry's three fields are read
-read : (c : goal.In-Declares)
+read : (c : In-Declares)
     → entry_at c.before.before.before.before.before.before.before.args.most
     c.before.before.before.before.before.before.before.args.book.now c.before.before.before.before.before.loop-i.at
     ≡ Declares c.before.e-1.given.0.0 c.before.e-1.given.0.1.0 c.before.e-1.given.0.1.1.0 c.before.e-1.given.0.1.1.1.0
 read c = sym c.before.before.before.entry_at-e.ensures ∙ c.before.e-1.given.1
 
 -- and the entry is judged
-held : (c : goal.Else-not-holds)
+held : (c : Else-not-holds)
     → entry_holds c.before.before.before.before.before.before.before.loop-i.tables c.before.before.before.before.before.before.before.before.before.args.n
     c.before.before.before.e-1.given.0.0 c.before.before.before.e-1.given.0.1.0 c.before.before.before.e-1.given.0.1.1.0 ≡ true
 held c = sym c.before.entry_holds-holds.ensures ∙ off-not _ c.if-not-holds.false
 
-small : (c : goal.Else-not-holds)
+small : (c : Else-not-holds)
     → Allowed c.before.before.before.before.before.before.before.loop-i.tables c.before.before.before.before.before.before.before.before.before.args.n
     c.before.before.before.e-1.given.0.0 c.before.before.before.e-1.given.0.1.0 c.before.before.before.e-1.given.0.1.1.0
 small c = on-allowed _ _ _ _ _ (on-holds _ _ _ _ _ (held c)).0
@@ -38,7 +48,7 @@ returns-in_default c =
     let l = c.before.before.before.before.before.loop-i in
     let a = c.before.before.before.before.before.before.before.args in
     let n = c.before.before.before.entry_at-e in
-    c.stopped-by-entry.ensures
+    c.stopped_by_entry.ensures
     ∙ sym
     (l.invariant.2
     ∙ entries-stop a.most a.book.now a.n l.at l.tables (a.count - l.i) (a.count - (l.i + 1)) (omega arith)

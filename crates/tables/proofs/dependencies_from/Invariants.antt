@@ -10,6 +10,9 @@ use Rattle.tables.specs.Dependencies.{entry_holds}
 use Rattle.tables.specs.Reading.{entry_at, dependencies_from}
 use Rattle.tables.proofs.DependencyLaws.{Allowed, on-allowed, on-holds}
 use Rattle.tables.proofs.ReadingLaws.{entries-end, entries-stop, entries-bad, entries-more}
+use Rattle.tables.proofs.dependencies_from.Lts as lts
+use Rattle.tables.proofs.dependencies_from.Reads as reads
+use Rattle.tables.proofs.dependencies_from.Tie as tie
 use Rattle.tables.proofs.dependencies_from.Given as goal
 
 abbrev pub invariant-loop-i : goal.invariant-loop-i

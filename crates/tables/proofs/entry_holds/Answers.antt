@@ -6,4 +6,4 @@ use Rattle.tables.proofs.entry_holds.Goals as goal
 
 pub returns : goal.returns
 unfolding entry_holds
-returns c = ap₂ (λ (u v : Bool). u && v) c.before.is-allowed.ensures c.rises.ensures
+returns c = ap₂ (λ (u v : Bool). u && v) c.before.is_allowed.ensures c.rises.ensures

@@ -11,19 +11,26 @@ use Rattle.tables.specs.declared.SagasRead.{SagasRead}
 use Rattle.tables.proofs.ReadingLaws.{all1, all2, all3, all4}
 use Rattle.tables.proofs.AcceptedWellHolds.{sagas-read}
 use borrow.Author.Rules.{rules}
+use Rattle.tables.proofs.read_tables.Lts as lts
+use Rattle.tables.proofs.read_tables.Reads as reads
+use Rattle.tables.proofs.read_tables.Tie as tie
 use Rattle.tables.proofs.read_tables.Goals as goal
 
+-- how things stand at places where nothing is asked
+abbrev After-within-e : Type 0
+After-within-e = lts.After-within tie.the-claims reads.Pre reads.Post
+
 -- once the edition field is read: the book and its edition, the ceiling that is the edition's, and the field itself
-abbrev Book : goal.After-within-e → List ℕ
+abbrev Book : After-within-e → List ℕ
 Book w = w.before.before.before.before.before.args.book.now
 
-abbrev Ed : goal.After-within-e → Edition
+abbrev Ed : After-within-e → Edition
 Ed w = w.before.before.before.before.before.args.edition
 
-ceiling : (w : goal.After-within-e) → w.before.most-most.result ≡ ceiling_of (Ed w)
+ceiling : (w : After-within-e) → w.before.most-most.result ≡ ceiling_of (Ed w)
 ceiling w = w.before.most-most.ensures
 
-first_field : (w : goal.After-within-e) → w.within-e.result ≡ edition_field (Ed w) (Book w)
+first_field : (w : After-within-e) → w.within-e.result ≡ edition_field (Ed w) (Book w)
 first_field w =
     w.within-e.ensures
     ∙ ap₂ (λ (low n : ℕ). number_within low (Book w) 0 n n BadEdition) w.before.before.edition_ceiling-low.ensures w.before.before.before.number-number.ensures
@@ -31,7 +38,7 @@ first_field w =
 pub returns-in_default : goal.returns-in_default
 returns-in_default c =
     let w = c.before.before.before in
-    c.stopped-by-field.ensures ∙ all1 w.before.before.before.before.before.args.circles (Ed w) (Book w) w.within-e.result _ _ (first_field w) c.before.enum_told-1.given.1
+    c.stopped_by_field.ensures ∙ all1 w.before.before.before.before.before.args.circles (Ed w) (Book w) w.within-e.result _ _ (first_field w) c.before.enum_told-1.given.1
 
 pub returns-in_default-g : goal.returns-in_default-g
 returns-in_default-g c =
@@ -88,6 +95,6 @@ returns c =
     let second = sym (j.before.before.before.within-g.ensures ∙ ap (λ (m : ℕ). number_within m (Book w) k.before.e-1.given.0.1.0 0 most_sagas BadCount) (ceiling w)) ∙ j.before.g-1.given.1 in
     let n = d.before.before.before.before.sagas_from-s in
     let read = n.ensures ∙ ap (λ (m : ℕ). sagas_from m (Book w) j.before.g-1.given.0.0 j.before.g-1.given.0.1.0 0 empty_tables) (ceiling w) in
-    c.Rest-from.ensures
+    c.rest_from.ensures
     ∙ ap (λ (m : ℕ). rest_from w.before.before.before.before.before.args.circles m (Book w) d.before.before.a-1.given.0.1.0 d.before.before.a-1.given.0.0 n.result.tables) (ceiling w)
     ∙ all4 w.before.before.before.before.before.args.circles (Ed w) (Book w) _ _ first _ _ second n.result read _ _ d.before.before.a-1.given.1

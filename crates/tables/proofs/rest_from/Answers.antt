@@ -13,7 +13,7 @@ pub returns-in_default : goal.returns-in_default
 returns-in_default c =
     let a = c.before.before.before.before.before.args in
     let n = c.before.before.before.within-f in
-    c.stopped-by-field.ensures
+    c.stopped_by_field.ensures
     ∙ rest1 a.circles a.most a.book.now a.at a.sum a.tables n.result _ _ n.ensures c.before.enum_told-1.given.1
 
 pub returns-in_default-g : goal.returns-in_default-g
@@ -69,6 +69,6 @@ returns c =
     let first = sym k.before.before.before.within-f.ensures ∙ k.before.f-1.given.1 in
     let second = sym j.before.before.before.within-g.ensures ∙ j.before.g-1.given.1 in
     let third = sym i.before.before.before.within-h.ensures ∙ i.before.h-1.given.1 in
-    c.unless-circle.ensures
+    c.unless_circle.ensures
     ∙ ap (unless_circle a.circles _) d.dependencies_from-read.ensures
     ∙ rest4 a.circles a.most a.book.now a.at a.sum a.tables _ _ first _ _ second _ _ third

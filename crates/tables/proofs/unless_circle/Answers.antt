@@ -18,11 +18,11 @@ returns-then-has_circle c =
     let k = n.before.before.before.before in
     let a = k.before.before.args in
     c.refused.ensures
-    ∙ circle-yes a.circles a.place a.read k.enum_told-1.given.1 _ n.before.before.enum_told-in-Read-1.given.1 n.has-circle.ensures c.before.if-has_circle.true
+    ∙ circle-yes a.circles a.place a.read k.enum_told-1.given.1 _ n.before.before.enum_told-in-Read-1.given.1 n.has_circle.ensures c.before.if-has_circle.true
 
 pub returns : goal.returns
 returns c =
     let n = c.before in
     let k = n.before.before.before.before in
     let a = k.before.before.args in
-    circle-no a.circles a.place a.read k.enum_told-1.given.1 _ n.before.before.enum_told-in-Read-1.given.1 n.has-circle.ensures c.if-has_circle.false
+    circle-no a.circles a.place a.read k.enum_told-1.given.1 _ n.before.before.enum_told-in-Read-1.given.1 n.has_circle.ensures c.if-has_circle.false

@@ -15,19 +15,19 @@ more-begun : (c : goal.After-one-more_unsettled)
     → c.before.before.before.before.before.before.before.before.before.before.before.loop-i.begun + c.before.before.before.before.before.before.one-more_begun.result ≡ count_below (c.before.before.before.before.before.before.before.before.before.before.before.loop-i.i + 1) (was_begun c.before.before.before.before.before.before.before.before.before.before.before.before.before.args.tables c.before.before.before.before.before.before.before.before.before.before.before.before.before.args.state)
 more-begun c =
     count-more c.before.before.before.before.before.before.before.before.before.before.before.loop-i.i (was_begun c.before.before.before.before.before.before.before.before.before.before.before.before.before.args.tables c.before.before.before.before.before.before.before.before.before.before.before.before.before.args.state) _ _ c.before.before.before.before.before.before.before.before.before.before.before.loop-i.invariant.2
-    (c.before.before.before.before.before.before.one-more_begun.ensures ∙ ap one (c.before.before.before.before.before.before.before.was-begun.ensures ∙ ap begun_by c.before.before.before.before.before.before.before.before.before.saga_phase-phase.ensures))
+    (c.before.before.before.before.before.before.one-more_begun.ensures ∙ ap one (c.before.before.before.before.before.before.before.was_begun.ensures ∙ ap begun_by c.before.before.before.before.before.before.before.before.before.saga_phase-phase.ensures))
 
 more-committed : (c : goal.After-one-more_unsettled)
     → c.before.before.before.before.before.before.before.before.before.before.before.loop-i.committed + c.before.before.before.before.one-more_committed.result ≡ count_below (c.before.before.before.before.before.before.before.before.before.before.before.loop-i.i + 1) (was_committed c.before.before.before.before.before.before.before.before.before.before.before.before.before.args.tables c.before.before.before.before.before.before.before.before.before.before.before.before.before.args.state)
 more-committed c =
     count-more c.before.before.before.before.before.before.before.before.before.before.before.loop-i.i (was_committed c.before.before.before.before.before.before.before.before.before.before.before.before.before.args.tables c.before.before.before.before.before.before.before.before.before.before.before.before.before.args.state) _ _ c.before.before.before.before.before.before.before.before.before.before.before.loop-i.invariant.3
-    (c.before.before.before.before.one-more_committed.ensures ∙ ap one (c.before.before.before.before.before.is-committed.ensures ∙ ap is_committed c.before.before.before.before.before.before.before.before.before.saga_phase-phase.ensures))
+    (c.before.before.before.before.one-more_committed.ensures ∙ ap one (c.before.before.before.before.before.is_committed.ensures ∙ ap is_committed c.before.before.before.before.before.before.before.before.before.saga_phase-phase.ensures))
 
 more-backed : (c : goal.After-one-more_unsettled)
     → c.before.before.before.before.before.before.before.before.before.before.before.loop-i.backed + c.before.before.one-more_backed.result ≡ count_below (c.before.before.before.before.before.before.before.before.before.before.before.loop-i.i + 1) (was_backed_out c.before.before.before.before.before.before.before.before.before.before.before.before.before.args.tables c.before.before.before.before.before.before.before.before.before.before.before.before.before.args.state)
 more-backed c =
     count-more c.before.before.before.before.before.before.before.before.before.before.before.loop-i.i (was_backed_out c.before.before.before.before.before.before.before.before.before.before.before.before.before.args.tables c.before.before.before.before.before.before.before.before.before.before.before.before.before.args.state) _ _ c.before.before.before.before.before.before.before.before.before.before.before.loop-i.invariant.4
-    (c.before.before.one-more_backed.ensures ∙ ap one (c.before.before.before.was-backed-out.ensures ∙ ap₂ backed_out_by c.before.before.before.before.before.before.before.before.before.saga_phase-phase.ensures c.before.before.before.before.before.before.before.before.settled-settled.ensures))
+    (c.before.before.one-more_backed.ensures ∙ ap one (c.before.before.before.was_backed_out.ensures ∙ ap₂ backed_out_by c.before.before.before.before.before.before.before.before.before.saga_phase-phase.ensures c.before.before.before.before.before.before.before.before.settled-settled.ensures))
 
 more-unsettled : (c : goal.After-one-more_unsettled)
     → c.before.before.before.before.before.before.before.before.before.before.before.loop-i.unsettled + c.one-more_unsettled.result ≡ count_below (c.before.before.before.before.before.before.before.before.before.before.before.loop-i.i + 1) (is_open c.before.before.before.before.before.before.before.before.before.before.before.before.before.args.tables c.before.before.before.before.before.before.before.before.before.before.before.before.before.args.state)

@@ -10,8 +10,8 @@ returns c =
     let p = a.self in
     λ i.
     record {
-      mine = c.before.before.with-member.ensures i;
-      put = (c.with-some.ensures ∙ ap (λ (b : Bool). with_some b p.put a.q.object) c.before.is-write.ensures) i;
+      mine = c.before.before.with_member.ensures i;
+      put = (c.with_some.ensures ∙ ap (λ (b : Bool). with_some b p.put a.q.object) c.before.is_write.ensures) i;
       used = p.used;
       written = p.written;
       reached = p.reached;

@@ -12,8 +12,8 @@ returns c =
     record {
       mine = p.mine;
       put = p.put;
-      used = c.before.before.before.with-member.ensures i;
-      written = (c.before.with-some.ensures ∙ ap (λ (b : Bool). with_some b p.written a.q.object) c.before.before.is-write.ensures) i;
+      used = c.before.before.before.with_member.ensures i;
+      written = (c.before.with_some.ensures ∙ ap (λ (b : Bool). with_some b p.written a.q.object) c.before.before.is_write.ensures) i;
       reached = c.with_member-2.ensures i;
       missed = p.missed;
     }

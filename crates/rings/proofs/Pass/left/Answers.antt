@@ -5,4 +5,4 @@ pub returns : goal.returns
 returns c =
     let p = c.before.before.args.self in
     λ i.
-    record { mine = p.mine; put = p.put; used = p.used; written = p.written; reached = p.reached; missed = c.with-member.ensures i }
+    record { mine = p.mine; put = p.put; used = p.used; written = p.written; reached = p.reached; missed = c.with_member.ensures i }

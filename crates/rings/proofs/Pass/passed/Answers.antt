@@ -8,12 +8,12 @@ use Rattle.rings.proofs.Pass.passed.Goals as goal
 pub returns-then-is_gone : goal.returns-then-is_gone
 returns-then-is_gone c =
     let a = c.before.before.args in
-    passed-gone a.start a.q a.self (sym c.before.is-gone.ensures ∙ c.if-is_gone.true)
+    passed-gone a.start a.q a.self (sym c.before.is_gone.ensures ∙ c.if-is_gone.true)
 
 pub returns-then-behind-known : goal.returns-then-behind-known
 returns-then-behind-known c =
     let a = c.before.before.before.before.before.before.before.before.before.before.args in
-    let live = sym c.before.before.before.before.before.before.before.before.before.is-gone.ensures ∙ c.before.before.before.before.before.before.before.before.if-is_gone.false in
+    let live = sym c.before.before.before.before.before.before.before.before.before.is_gone.ensures ∙ c.before.before.before.before.before.before.before.before.if-is_gone.false in
     let met = ap₂ ◌||◌ c.before.before.before.before.crossed-behind.ensures c.before.before.before.before.before.member-known.ensures in
     c.joined.ensures
     ∙ ap (joined_by a.q) c.before.before.begun-own.ensures
@@ -22,7 +22,7 @@ returns-then-behind-known c =
 pub returns-then-b-start : goal.returns-then-b-start
 returns-then-b-start c =
     let a = c.before.before.before.before.before.before.before.before.before.before.args in
-    let live = sym c.before.before.before.before.before.before.before.before.before.is-gone.ensures ∙ c.before.before.before.before.before.before.before.before.if-is_gone.false in
+    let live = sym c.before.before.before.before.before.before.before.before.before.is_gone.ensures ∙ c.before.before.before.before.before.before.before.before.if-is_gone.false in
     let met = ap₂ ◌||◌ c.before.before.before.before.crossed-behind.ensures c.before.before.before.before.before.member-known.ensures in
     c.left.ensures
     ∙ ap (left_by a.q) c.before.before.begun-own.ensures
@@ -31,13 +31,13 @@ returns-then-b-start c =
 pub returns-then-known : goal.returns-then-known
 returns-then-known c =
     let a = c.before.before.before.before.before.before.before.before.before.args in
-    let live = sym c.before.before.before.before.before.before.before.before.is-gone.ensures ∙ c.before.before.before.before.before.before.before.if-is_gone.false in
+    let live = sym c.before.before.before.before.before.before.before.before.is_gone.ensures ∙ c.before.before.before.before.before.before.before.if-is_gone.false in
     c.joined-then-known.ensures ∙ known_joined a.start a.q a.self live c.before.before.if-b-start.false (sym c.before.before.before.before.member-known.ensures ∙ c.before.if-known.true)
 
 pub returns-then-behind-crossed : goal.returns-then-behind-crossed
 returns-then-behind-crossed c =
     let a = c.before.before.before.before.before.before.before.before.before.before.before.args in
-    let live = sym c.before.before.before.before.before.before.before.before.before.before.is-gone.ensures ∙ c.before.before.before.before.before.before.before.before.before.if-is_gone.false in
+    let live = sym c.before.before.before.before.before.before.before.before.before.before.is_gone.ensures ∙ c.before.before.before.before.before.before.before.before.before.if-is_gone.false in
     let off = sym c.before.before.before.before.before.before.member-known.ensures ∙ c.before.before.before.if-known.false in
     let met = ap₂ ◌||◌ c.before.before.before.before.before.crossed-behind.ensures c.before.before.crossed.ensures in
     c.joined-then-behind-crossed.ensures ∙ met-joined a.start a.q a.self live c.before.before.before.before.if-b-start.false off (sym met ∙ c.before.if-behind-crossed.true)
@@ -45,7 +45,7 @@ returns-then-behind-crossed c =
 pub returns : goal.returns
 returns c =
     let a = c.before.before.before.before.before.before.before.before.before.before.before.args in
-    let live = sym c.before.before.before.before.before.before.before.before.before.before.is-gone.ensures ∙ c.before.before.before.before.before.before.before.before.before.if-is_gone.false in
+    let live = sym c.before.before.before.before.before.before.before.before.before.before.is_gone.ensures ∙ c.before.before.before.before.before.before.before.before.before.if-is_gone.false in
     let off = sym c.before.before.before.before.before.before.member-known.ensures ∙ c.before.before.before.if-known.false in
     let met = ap₂ ◌||◌ c.before.before.before.before.before.crossed-behind.ensures c.before.before.crossed.ensures in
     c.left-2.ensures ∙ not-met a.start a.q a.self live c.before.before.before.before.if-b-start.false off (sym met ∙ c.before.if-behind-crossed.false)

@@ -4,4 +4,4 @@ use borrow.Author.Rules.{rules}
 use Rattle.tables.proofs.Sort.may_base.Goals as goal
 
 pub returns : goal.returns
-returns c = ap₂ (λ (u v : Bool). u || v) c.before.is-plain.ensures c.is-saga.ensures
+returns c = ap₂ (λ (u v : Bool). u || v) c.before.is_plain.ensures c.is_saga.ensures

@@ -6,4 +6,4 @@ use Rattle.tables.proofs.Sort.may_depend.Goals as goal
 
 pub returns : goal.returns
 returns c =
-    ap₂ (λ (u v : Bool). u || (leb 4 c.before.before.args.kind && v)) c.before.is-plain.ensures c.is-saga.ensures
+    ap₂ (λ (u v : Bool). u || (leb 4 c.before.before.args.kind && v)) c.before.is_plain.ensures c.is_saga.ensures

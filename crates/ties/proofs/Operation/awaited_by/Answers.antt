@@ -2,4 +2,4 @@ use borrow.Author.Rules.{rules}
 use Rattle.ties.proofs.Operation.awaited_by.Goals as goal
 
 pub returns : goal.returns
-returns c = rw (c.before.is-active.ensures, c.conflicts.ensures)
+returns c = rw (c.before.is_active.ensures, c.conflicts.ensures)

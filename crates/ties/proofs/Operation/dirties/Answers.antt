@@ -2,4 +2,4 @@ use borrow.Author.Rules.{rules}
 use Rattle.ties.proofs.Operation.dirties.Goals as goal
 
 pub returns : goal.returns
-returns c = rw (c.before.before.before.is-write.ensures, c.before.before.tied-to.ensures, c.before.is-committed.ensures, c.is-active.ensures)
+returns c = rw (c.before.before.before.is_write.ensures, c.before.before.tied_to.ensures, c.before.is_committed.ensures, c.is_active.ensures)

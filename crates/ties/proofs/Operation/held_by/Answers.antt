@@ -5,4 +5,4 @@ use borrow.Author.Rules.{rules}
 use Rattle.ties.proofs.Operation.held_by.Goals as goal
 
 pub returns : goal.returns
-returns c = let a = c.before.before.args in ap (λ (b : Bool). b && eqb a.self.responsible a.t) c.is-active.ensures
+returns c = let a = c.before.before.args in ap (λ (b : Bool). b && eqb a.self.responsible a.t) c.is_active.ensures

@@ -2,4 +2,4 @@ use borrow.Author.Rules.{rules}
 use Rattle.ties.proofs.Operation.is_gone.Goals as goal
 
 pub returns : goal.returns
-returns c = rw c.is-aborted.ensures
+returns c = rw c.is_aborted.ensures

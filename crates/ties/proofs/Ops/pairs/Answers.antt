@@ -25,7 +25,7 @@ loop-i-preserved c =
     let ops = at.before.before.before.before.before.before.args.t1 in
     let j = at.before.before.before.before.loop-j.j in
     let i = at.loop-i.i in
-    let told = c.before.Counts-with.ensures in (
+    let told = c.before.counts_with.ensures in (
       omega arith,
       ⊎_elim
           (λ w. w.2
