@@ -35,14 +35,14 @@ returns-in_default c =
 pub returns-then-not-fit : goal.returns-then-not-fit
 unfolding room_after
 returns-then-not-fit c =
-    let a = c.before.before.before.before.before.before.before.before.before.before.before.before.args in
+    let a = c.before.before.before.before.before.before.before.before.before.before.before.args in
     let v = c.before.before.before.answer-1.given in
     let none = sym c.before.fit.ensures ∙ on-not c.before.fit.result c.if-not-fit.true in
     (answer-full a.text.now (length a.names.now) (length a.ends.now) (length a.steps.now) (length a.lists.now) (omega arith) c.before.before.before.before.before.counted-answer.result c.before.before.before.before.before.counted-answer.ensures v.0.0 v.1 none, (refl, (refl, (refl, refl))))
 
 pub fill-requires : goal.fill-requires
 fill-requires c =
-    let a = c.before.before.before.before.before.before.before.before.before.before.before.before.before.before.before.before.args in
+    let a = c.before.before.before.before.before.before.before.before.before.before.before.before.before.before.before.args in
     let v = c.before.before.before.before.before.before.before.answer-1.given in
     let large = sym c.before.before.before.before.before.fit.ensures ∙ off-not c.before.before.before.before.before.fit.result c.before.before.before.before.if-not-fit.false in
     let r = rooms v.0.0 (length a.names.now) (length a.ends.now) (length a.steps.now) (length a.lists.now) large in
@@ -62,7 +62,7 @@ fill-requires c =
 
 pub returns : goal.returns
 returns c =
-    let a = c.before.before.before.before.before.before.before.before.before.before.before.before.before.before.before.before.before.before.before.before.before.before.before.before.before.args in
+    let a = c.before.before.before.before.before.before.before.before.before.before.before.before.before.before.before.before.before.before.before.before.before.before.before.before.args in
     let v = c.before.before.before.before.before.before.before.before.before.before.before.before.before.before.before.before.answer-1.given in
     let x = c.before.before.before.before.before.before.before.before.before.before.before.before.before.before.before.before.before.before.counted-answer.result in
     let y = Read v.0.0 in

@@ -35,13 +35,13 @@ abbrev Kept : Tables → ℕ → List ℕ → Type 0
 Kept tables i links = (length links ≡ most_transactions) × Holds links (linked_by tables (i + 1))
 
 pub loop-i-init : goal.loop-i-init
-loop-i-init c = (omega arith, c.dependency_count-n.ensures, refl, links-none c.before.args.t1 (replicate most_transactions 0) zeros)
+loop-i-init c = (omega arith, c.dependency_count-n.ensures, refl, links-none c.before.args.tables (replicate most_transactions 0) zeros)
 
 -- where the test held, the dependent is a transaction
 low : (c : Then-is_begin_kind-d)
-    → (dependency_at c.before.before.before.before.before.before.before.before.args.t1 c.before.before.before.before.before.before.loop-i.i).dependent < most_transactions
+    → (dependency_at c.before.before.before.before.before.before.before.before.args.tables c.before.before.before.before.before.before.loop-i.i).dependent < most_transactions
 low c =
-    let x = dependency_at c.before.before.before.before.before.before.before.before.args.t1 c.before.before.before.before.before.before.loop-i.i in
+    let x = dependency_at c.before.before.before.before.before.before.before.before.args.tables c.before.before.before.before.before.before.loop-i.i in
     ltb-true x.dependent most_transactions (on_and c.before.is_begin_kind.result (ltb x.dependent most_transactions) c.if-is_begin_kind-d.true).1
 
 pub bounds-links-d : goal.bounds-links-d
@@ -56,7 +56,7 @@ loop-i-smaller c = omega arith
 pub loop-i-preserved : goal.loop-i-preserved
 loop-i-preserved c =
     let l = c.before.before.before.before.before.before.loop-i in
-    let tables = c.before.before.before.before.before.before.before.before.args.t1 in
+    let tables = c.before.before.before.before.before.before.before.before.args.tables in
     let x = dependency_at tables l.i in
     let told : (c.before.is_begin_kind.result && ltb x.dependent most_transactions) ≡ (is_begin_kind x.kind && ltb x.dependent most_transactions) =
     ap (λ (b : Bool). b && ltb x.dependent most_transactions) c.before.is_begin_kind.ensures in
@@ -69,4 +69,4 @@ loop-i-preserved c =
     (omega arith, l.invariant.1, both.0, both.1)
 
 pub returns : goal.returns
-returns c = links-all c.before.before.before.args.t1 c.before.loop-i.links c.before.loop-i.i (omega arith) c.before.loop-i.invariant.3
+returns c = links-all c.before.before.before.args.tables c.before.loop-i.links c.before.loop-i.i (omega arith) c.before.loop-i.invariant.3

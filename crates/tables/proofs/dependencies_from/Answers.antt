@@ -60,8 +60,8 @@ entry_holds-holds-requires c = omega arith
 pub returns-then-not-holds : goal.returns-then-not-holds
 returns-then-not-holds c =
     let k = c.before.before.before in
-    let l = k.before.before.before.before.before.loop-i in
-    let a = k.before.before.before.before.before.before.before.args in
+    let l = k.before.before.before.before.loop-i in
+    let a = k.before.before.before.before.before.before.args in
     c.refused.ensures
     ∙ sym
     (l.invariant.2
@@ -77,8 +77,8 @@ overflow_cast-tables-in-loop-i c = omega (arith, (small c.before).base-known, c.
 pub loop-i-preserved : goal.loop-i-preserved
 loop-i-preserved c =
     let k = c.before.before.before in
-    let l = k.before.before.before.before.before.loop-i in
-    let a = k.before.before.before.before.before.before.before.args in (
+    let l = k.before.before.before.before.loop-i in
+    let a = k.before.before.before.before.before.before.args in (
       omega arith,
       refl,
       l.invariant.2

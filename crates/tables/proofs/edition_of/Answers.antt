@@ -20,7 +20,7 @@ read c = c.at-f.ensures ∙ ap (λ (m : ℕ). number_at m c.before.before.before
 pub returns-in-Value : goal.returns-in-Value
 returns-in-Value c =
     let r = c.before.before.before.before in
-    c.named.ensures ∙ sym (named r.before.before.before.args.book.now _ _ (sym (read r) ∙ c.before.before.f-1.given.1))
+    c.named.ensures ∙ sym (named r.before.before.args.book.now _ _ (sym (read r) ∙ c.before.before.f-1.given.1))
 
 pub returns-in-Fault : goal.returns-in-Fault
 returns-in-Fault c =

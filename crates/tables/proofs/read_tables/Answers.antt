@@ -53,7 +53,7 @@ returns-in_default-g c =
 pub sagas_from-s-requires : goal.sagas_from-s-requires
 sagas_from-s-requires c =
     let w = c.before.before.before.before.before.before.before in
-    let second = sym c.before.before.before.within-g.ensures ∙ c.before.g-1.given.1 in
+    let second = sym c.before.before.within-g.ensures ∙ c.before.g-1.given.1 in
     (within-range w.before.most-most.result (Book w) _ 0 most_sagas BadCount _ _ second).1
 
 pub returns-in_default-a : goal.returns-in_default-a

@@ -19,7 +19,7 @@ returns-in_default c =
 pub returns-in_default-g : goal.returns-in_default-g
 returns-in_default-g c =
     let k = c.before.before.before.before in
-    let a = k.before.before.before.before.before.args in
+    let a = k.before.before.before.args in
     let first = sym k.before.before.before.within-f.ensures ∙ k.before.f-1.given.1 in
     let n = c.before.before.before.within-g in
     c.stopped_by_field-in_default-g.ensures
@@ -29,8 +29,8 @@ pub returns-in_default-h : goal.returns-in_default-h
 returns-in_default-h c =
     let j = c.before.before.before.before in
     let k = j.before.before.before.before in
-    let a = k.before.before.before.before.before.args in
-    let first = sym k.before.before.before.within-f.ensures ∙ k.before.f-1.given.1 in
+    let a = k.before.args in
+    let first = sym k.before.within-f.ensures ∙ k.before.f-1.given.1 in
     let second = sym j.before.before.before.within-g.ensures ∙ j.before.g-1.given.1 in
     let n = c.before.before.before.within-h in
     c.stopped_by_field-in_default-h.ensures

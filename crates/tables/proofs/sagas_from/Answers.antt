@@ -15,8 +15,8 @@ use Rattle.tables.proofs.sagas_from.Goals as goal
 
 -- in a turn, once the field is known to be within its range
 read : (c : goal.In-Value)
-    → number_within c.before.before.before.before.before.before.before.before.args.most
-    c.before.before.before.before.before.before.before.before.args.book.now c.before.before.before.before.before.loop-i.at 1 most_steps BadCount
+    → number_within c.before.before.before.before.before.before.before.args.most
+    c.before.before.before.before.before.before.before.args.book.now c.before.before.before.before.loop-i.at 1 most_steps BadCount
     ≡ Value c.before.f-1.given.0.0 c.before.f-1.given.0.1.0
 read c = sym c.before.before.before.within-f.ensures ∙ c.before.f-1.given.1
 
@@ -51,8 +51,8 @@ overflow_add-more c = omega (arith, (range c).1)
 pub returns-then-more-gt-TRANSACTIONS : goal.returns-then-more-gt-TRANSACTIONS
 returns-then-more-gt-TRANSACTIONS c =
     let k = c.before.before in
-    let l = k.before.before.before.before.before.loop-i in
-    let a = k.before.before.before.before.before.before.before.before.args in
+    let l = k.before.before.before.before.loop-i in
+    let a = k.before.before.before.before.before.before.before.args in
     ap (λ (t : Tables). record { answer = Fault BadCount l.at; tables = t }) c.empty-none-then-more-gt-TRANSACTIONS.ensures
     ∙ sym (l.invariant.3 ∙ sagas-large a.most a.book.now l.at l.sum l.tables (a.count - l.i) (a.count - (l.i + 1)) (omega arith) _ _ (read k) (omega arith))
 
@@ -65,8 +65,8 @@ bounds-tables-i c = omega arith
 pub loop-i-preserved : goal.loop-i-preserved
 loop-i-preserved c =
     let k = c.before in
-    let l = k.before.before.before.before.before.loop-i in
-    let a = k.before.before.before.before.before.before.before.before.args in (
+    let l = k.before.before.before.before.loop-i in
+    let a = k.before.before.before.before.before.before.before.args in (
       omega arith,
       omega arith,
       refl,

@@ -4,7 +4,7 @@ use borrow.Author.Rules.{rules}
 use Rattle.tables.proofs.unless_circle.Goals as goal
 
 pub returns-in_default : goal.returns-in_default
-returns-in_default c = let a = c.before.before.args in circle-permitted a.circles a.place a.read c.enum_told-in_default-1.given.1
+returns-in_default c = let a = c.before.args in circle-permitted a.circles a.place a.read c.enum_told-in_default-1.given.1
 
 pub returns-in_default-answer : goal.returns-in_default-answer
 returns-in_default-answer c =

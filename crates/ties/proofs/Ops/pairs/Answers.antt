@@ -14,7 +14,7 @@ use Rattle.ties.proofs.TableLaws.{before_by, into, by-none, by_all, into-none, i
 use Rattle.ties.proofs.Ops.pairs.Goals as goal
 
 pub loop-j-init : goal.loop-j-init
-loop-j-init c = (omega arith, by-none c.before.args.t1)
+loop-j-init c = (omega arith, by-none c.before.args.self)
 
 pub loop-i-init : goal.loop-i-init
 loop-i-init c = (omega arith, c.before.before.before.loop-j.invariant.1 ∙ into-none c.before.before.before.before.before.args.t1 c.before.before.before.loop-j.j)
@@ -22,7 +22,7 @@ loop-i-init c = (omega arith, c.before.before.before.loop-j.invariant.1 ∙ into
 pub loop-i-preserved : goal.loop-i-preserved
 loop-i-preserved c =
     let at = c.before.before.before.before in
-    let ops = at.before.before.before.before.before.before.args.t1 in
+    let ops = at.before.before.before.before.before.before.args.self in
     let j = at.before.before.before.before.loop-j.j in
     let i = at.loop-i.i in
     let told = c.before.counts_with.ensures in (
@@ -37,7 +37,7 @@ loop-i-preserved c =
 
 pub loop-j-preserved : goal.loop-j-preserved
 loop-j-preserved c =
-    let ops = c.before.before.before.before.before.before.before.args.t1 in
+    let ops = c.before.before.before.before.before.before.before.args.self in
     let j = c.before.before.before.before.before.loop-j.j in
     let there : c.before.loop-i.i ≡ j = omega arith in
     (omega arith, c.before.loop-i.invariant.1 ∙ ap (λ (n : ℕ). grid most_transactions (into ops j n)) there ∙ into-all ops j)
