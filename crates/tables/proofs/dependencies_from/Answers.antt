@@ -20,12 +20,11 @@ returns-in_default c =
     let l = c.loop-i in
     let a = c.args in
     let n = c.entry_at-e in
-    let h = c.in_default in
     c.stopped_by_entry.ensures
     ∙ sym
     (l.invariant.2
     ∙ entries-stop a.most a.book.now a.n l.at l.tables (a.count - l.i) (a.count - (l.i + 1)) (omega arith)
-    n.result _ _ n.ensures ?)
+    n.result _ _ n.ensures c.in_default.is)
 
 pub entry_holds-holds-requires : goal.entry_holds-holds-requires
 entry_holds-holds-requires c = omega arith
@@ -42,13 +41,23 @@ returns-then-not-holds c =
 
 pub overflow_cast-tables : goal.overflow_cast-tables
 overflow_cast-tables c =
+    let t = c.loop-i.tables in
+    let n = c.args.n in
+    let d = c.in-Declares.d in
+    let b = c.in-Declares.b in
+    let k = c.in-Declares.kind in
     let held = sym c.entry_holds-holds.ensures ∙ c.if-not-holds.false in
-    omega (arith, (on-allowed _ _ _ _ _ (on-holds _ _ _ _ _ held).0).dependent-known, c.requires)
+    omega (arith, (on-allowed t n d b k (on-holds t n d b k held).0).dependent-known, c.requires)
 
 pub overflow_cast-tables-in-loop-i : goal.overflow_cast-tables-in-loop-i
 overflow_cast-tables-in-loop-i c =
+    let t = c.loop-i.tables in
+    let n = c.args.n in
+    let d = c.in-Declares.d in
+    let b = c.in-Declares.b in
+    let k = c.in-Declares.kind in
     let held = sym c.entry_holds-holds.ensures ∙ c.if-not-holds.false in
-    omega (arith, (on-allowed _ _ _ _ _ (on-holds _ _ _ _ _ held).0).base-known, c.requires)
+    omega (arith, (on-allowed t n d b k (on-holds t n d b k held).0).base-known, c.requires)
 
 pub loop-i-preserved : goal.loop-i-preserved
 loop-i-preserved c =

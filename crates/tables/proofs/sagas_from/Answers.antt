@@ -33,9 +33,8 @@ pub returns-in_default : goal.returns-in_default
 returns-in_default c =
     let l = c.loop-i in
     let a = c.args in
-    let told = c.in_default in
-    let at_field : number_within a.most a.book.now l.at 1 most_steps BadCount ≡ Fault _ _ = sym c.within-f.ensures ∙ ? in
-    (λ i. record { answer = told.1 i; tables = c.empty-none.ensures i })
+    let at_field = sym c.within-f.ensures ∙ c.in_default.is in
+    (λ i. record { answer = c.in_default.is i; tables = c.empty-none.ensures i })
     ∙ sym (l.invariant.3 ∙ sagas-stop a.most a.book.now l.at l.sum l.tables (a.count - l.i) (a.count - (l.i + 1)) (omega arith) _ _ at_field)
 
 pub overflow_mul-more : goal.overflow_mul-more
@@ -52,7 +51,9 @@ returns-then-more-gt-TRANSACTIONS c =
     ∙ sym (l.invariant.3 ∙ sagas-large a.most a.book.now l.at l.sum l.tables (a.count - l.i) (a.count - (l.i + 1)) (omega arith) _ _ (sym c.within-f.ensures ∙ c.in-Value.is) (omega arith))
 
 pub overflow_cast-tables : goal.overflow_cast-tables
-overflow_cast-tables c = omega (arith, (range c.before).1)
+overflow_cast-tables c =
+    let r = within-range _ _ _ 1 most_steps BadCount _ _ (sym c.within-f.ensures ∙ c.in-Value.is) in
+    omega (arith, r.1)
 
 pub bounds-tables-i : goal.bounds-tables-i
 bounds-tables-i c = omega arith

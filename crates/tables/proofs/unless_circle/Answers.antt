@@ -3,13 +3,12 @@ use Rattle.tables.proofs.ReadingLaws.{circle-permitted, circle-refused, circle-y
 use Rattle.tables.proofs.unless_circle.Goals as goal
 
 pub returns-in_default : goal.returns-in_default
-returns-in_default c = let a = c.args in let h = c.in_default in circle-permitted a.circles a.place a.read ?
+returns-in_default c = let a = c.args in circle-permitted a.circles a.place a.read c.in_default.is
 
 pub returns-in_default-answer : goal.returns-in_default-answer
 returns-in_default-answer c =
     let a = c.args in
-    let h = c.in_default-answer in
-    circle-refused a.circles a.place a.read c.in-Forbidden.is ? ? ?
+    circle-refused a.circles a.place a.read c.in-Forbidden.is _ _ c.in_default-answer.is
 
 pub returns-then-has_circle : goal.returns-then-has_circle
 returns-then-has_circle c =
