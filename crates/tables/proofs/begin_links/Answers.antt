@@ -16,6 +16,7 @@ use Rattle.terms.specs.Limits.{most_transactions, most_dependencies}
 use Rattle.sets.proofs.RowLaws.{Holds}
 use Rattle.tables.proofs.CircleLaws.{linked_by, links-none, links-all, links-in, links-out}
 use Rattle.tables.proofs.begin_links.Goals as goal
+use Rattle.tables.proofs.begin_links.Goals.{then-is_begin_kind-d, else-is_begin_kind-d}
 
 zeros : (d : ℕ) → ◌≡◌ {A = ℕ} (get_or (replicate most_transactions 0) d 0) 0
 zeros d =
@@ -30,10 +31,14 @@ pub loop-i-init : goal.loop-i-init
 loop-i-init c = (omega arith, c.dependency_count-n.ensures, refl, links-none c.args.tables (replicate most_transactions 0) zeros)
 
 pub bounds-links-d : goal.bounds-links-d
-bounds-links-d c = ?
+bounds-links-d c =
+    let x = dependency_at c.args.tables c.loop-i.i in
+    ltb-true x.dependent most_transactions (on_and c.is_begin_kind.result (ltb x.dependent most_transactions) c.if-is_begin_kind-d.true).1
 
 pub bounds-links-d-then-is_begin_kind-d : goal.bounds-links-d-then-is_begin_kind-d
-bounds-links-d-then-is_begin_kind-d c = ?
+bounds-links-d-then-is_begin_kind-d c =
+    let x = dependency_at c.args.tables c.loop-i.i in
+    ltb-true x.dependent most_transactions (on_and c.is_begin_kind.result (ltb x.dependent most_transactions) c.if-is_begin_kind-d.true).1
 
 pub loop-i-smaller : goal.loop-i-smaller
 loop-i-smaller c = omega arith
@@ -43,8 +48,17 @@ loop-i-preserved c =
     let l = c.loop-i in
     let tables = c.args.tables in
     let x = dependency_at tables l.i in
-    let b = c.if-is_begin_kind-d in
-    let h = c.if-is_begin_kind-d.branch in ?
+    let told : (c.is_begin_kind.result && ltb x.dependent most_transactions) ≡ (is_begin_kind x.kind && ltb x.dependent most_transactions) =
+    ap (λ (b : Bool). b && ltb x.dependent most_transactions) c.is_begin_kind.ensures in
+    let both : Kept tables l.i c.if-is_begin_kind-d.links =
+    elim c.if-is_begin_kind-d.branch [
+      | then-is_begin_kind-d w ↦
+          subst⁻¹ (Kept tables l.i) (w.links-is ∙ ap (set l.links x.dependent) w.with_member.ensures)
+          (length-set l.links x.dependent _ ∙ l.invariant.2, links-in tables l.i l.links l.invariant.3 l.invariant.2 (sym told ∙ w.if-is_begin_kind-d.true))
+      | else-is_begin_kind-d w ↦
+          subst⁻¹ (Kept tables l.i) w.links-is (l.invariant.2, links-out tables l.i l.links l.invariant.3 (sym told ∙ w.if-is_begin_kind-d.false))
+    ] in
+    (omega arith, l.invariant.1, both.0, both.1)
 
 pub returns : goal.returns
 returns c = links-all c.args.tables c.loop-i.links c.loop-i.i (omega arith) c.loop-i.invariant.3

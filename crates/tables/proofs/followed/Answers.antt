@@ -8,6 +8,7 @@ use Rattle.terms.specs.Limits.{most_transactions}
 use Rattle.sets.specs.Reach.{at, closed}
 use Rattle.sets.proofs.RowLaws.{Holds, table_of, partly, rows-first, rows_none, rows_more, rows_last, partly_none, partly-all, partly-in, partly-out}
 use Rattle.tables.proofs.followed.Goals as goal
+use Rattle.tables.proofs.followed.Goals.{then-member, else-member}
 
 -- after a turn of the inner loop
 abbrev Kept : ℕ → List ℕ → ℕ → List ℕ → Type 0
@@ -28,7 +29,19 @@ loop-a-preserved c =
     let o = c.loop-k in
     let low : o.k < most_transactions = omega arith in
     let told = c.member.ensures in
-    let h = c.if-member.branch in ?
+    let both : Kept o.k o.rows l.a c.if-member.rows =
+    elim c.if-member.branch [
+      | then-member w ↦
+          subst⁻¹ (Kept o.k o.rows l.a) w.rows-is (
+            length-set l.rows l.a _ ∙ l.invariant.1,
+            partly-in o.k (table_of o.rows) l.rows l.a (omega arith) l.invariant.2 low l.invariant.1 (sym told ∙ w.if-member.true)
+                (get_or o.rows o.k 0) (λ b m. rows-first o.rows o.k b low m),
+          )
+      | else-member w ↦
+          subst⁻¹ (Kept o.k o.rows l.a) w.rows-is
+          (l.invariant.1, partly-out o.k (table_of o.rows) l.rows l.a (omega arith) l.invariant.2 low (sym told ∙ w.if-member.false))
+    ] in
+    (omega arith, both.0, both.1)
 
 pub loop-k-smaller : goal.loop-k-smaller
 loop-k-smaller c = omega arith
