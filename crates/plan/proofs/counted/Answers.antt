@@ -18,14 +18,14 @@ loop-at-init c = (omega arith, omega arith, omega arith, omega arith, omega arit
 pub line_between-line-requires : goal.line_between-line-requires
 line_between-line-requires c =
     let inside : (c.loop-at.at ≤ c.line_end-end.result) × (c.line_end-end.result ≤ length c.args.text.now) =
-        end-within c.args.text.now c.loop-at.at c.line_end-end.result c.line_end-end.ensures (omega arith) in
+    end-within c.args.text.now c.loop-at.at c.line_end-end.result c.line_end-end.ensures (omega arith) in
     inside
 
 pub returns-then-not_clear : goal.returns-then-not_clear
 returns-then-not_clear c =
     let turn : entries_of (drop c.loop-at.at c.args.text.now) ≡ entry_by c.word_of-word.result (name_of c.line_between-line.result.now) ∷ entries_of (drop (c.line_end-end.result + 1) c.args.text.now) =
-        entry_more c.args.text.now c.loop-at.at c.line_end-end.result c.line_end-end.ensures (omega arith)
-        c.line_between-line.ensures c.word_of-word.ensures refl in
+    entry_more c.args.text.now c.loop-at.at c.line_end-end.result c.line_end-end.ensures (omega arith)
+    c.line_between-line.ensures c.word_of-word.ensures refl in
     let text = c.args.text.now in
     let l = c.loop-at in
     told_line (entries_of text) l.number
@@ -36,38 +36,38 @@ returns-then-not_clear c =
 pub with_line-next-requires : goal.with_line-next-requires
 with_line-next-requires c =
     let inside : (c.loop-at.at ≤ c.line_end-end.result) × (c.line_end-end.result ≤ length c.args.text.now) =
-        end-within c.args.text.now c.loop-at.at c.line_end-end.result c.line_end-end.ensures (omega arith) in
+    end-within c.args.text.now c.loop-at.at c.line_end-end.result c.line_end-end.ensures (omega arith) in
     let small : length c.name_of-name.result.now ≤ c.line_end-end.result - c.loop-at.at =
-        let text = c.args.text.now in
-        let part = take (c.line_end-end.result - c.loop-at.at) (drop c.loop-at.at text) in
-        let e = ap length (c.name_of-name.ensures ∙ ap name_of c.line_between-line.ensures) in
-        omega (arith, e, name-le part, length-take (c.line_end-end.result - c.loop-at.at) (drop c.loop-at.at text)) in
+    let text = c.args.text.now in
+    let part = take (c.line_end-end.result - c.loop-at.at) (drop c.loop-at.at text) in
+    let e = ap length (c.name_of-name.ensures ∙ ap name_of c.line_between-line.ensures) in
+    omega (arith, e, name-le part, length-take (c.line_end-end.result - c.loop-at.at) (drop c.loop-at.at text)) in
     (omega arith, omega arith, omega arith, omega arith)
 
 pub overflow_add-at : goal.overflow_add-at
 overflow_add-at c =
     let inside : (c.loop-at.at ≤ c.line_end-end.result) × (c.line_end-end.result ≤ length c.args.text.now) =
-        end-within c.args.text.now c.loop-at.at c.line_end-end.result c.line_end-end.ensures (omega arith) in
+    end-within c.args.text.now c.loop-at.at c.line_end-end.result c.line_end-end.ensures (omega arith) in
     omega arith
 
 pub loop-at-smaller : goal.loop-at-smaller
 loop-at-smaller c =
     let inside : (c.loop-at.at ≤ c.line_end-end.result) × (c.line_end-end.result ≤ length c.args.text.now) =
-        end-within c.args.text.now c.loop-at.at c.line_end-end.result c.line_end-end.ensures (omega arith) in
+    end-within c.args.text.now c.loop-at.at c.line_end-end.result c.line_end-end.ensures (omega arith) in
     omega arith
 
 pub loop-at-preserved : goal.loop-at-preserved
 loop-at-preserved c =
     let inside : (c.loop-at.at ≤ c.line_end-end.result) × (c.line_end-end.result ≤ length c.args.text.now) =
-        end-within c.args.text.now c.loop-at.at c.line_end-end.result c.line_end-end.ensures (omega arith) in
+    end-within c.args.text.now c.loop-at.at c.line_end-end.result c.line_end-end.ensures (omega arith) in
     let turn : entries_of (drop c.loop-at.at c.args.text.now) ≡ entry_by c.word_of-word.result (name_of c.line_between-line.result.now) ∷ entries_of (drop (c.line_end-end.result + 1) c.args.text.now) =
-        entry_more c.args.text.now c.loop-at.at c.line_end-end.result c.line_end-end.ensures (omega arith)
-        c.line_between-line.ensures c.word_of-word.ensures refl in
+    entry_more c.args.text.now c.loop-at.at c.line_end-end.result c.line_end-end.ensures (omega arith)
+    c.line_between-line.ensures c.word_of-word.ensures refl in
     let small : length c.name_of-name.result.now ≤ c.line_end-end.result - c.loop-at.at =
-        let text = c.args.text.now in
-        let part = take (c.line_end-end.result - c.loop-at.at) (drop c.loop-at.at text) in
-        let e = ap length (c.name_of-name.ensures ∙ ap name_of c.line_between-line.ensures) in
-        omega (arith, e, name-le part, length-take (c.line_end-end.result - c.loop-at.at) (drop c.loop-at.at text)) in
+    let text = c.args.text.now in
+    let part = take (c.line_end-end.result - c.loop-at.at) (drop c.loop-at.at text) in
+    let e = ap length (c.name_of-name.ensures ∙ ap name_of c.line_between-line.ensures) in
+    omega (arith, e, name-le part, length-take (c.line_end-end.result - c.loop-at.at) (drop c.loop-at.at text)) in
     let text = c.args.text.now in
     let l = c.loop-at in
     let w = c.word_of-word.result in

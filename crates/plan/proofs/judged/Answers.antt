@@ -14,36 +14,36 @@ pub returns-then-lists-gt-LISTS : goal.returns-then-lists-gt-LISTS
 unfolding plan_verdict
 returns-then-lists-gt-LISTS c =
     let few-steps : too_many_steps c.args.steps.now ≡ false =
-        sym c.too_many_steps.ensures ∙ c.if-too_many_steps.false in
+    sym c.too_many_steps.ensures ∙ c.if-too_many_steps.false in
     rw (few-steps, lt-ltb most_lists (length c.args.lists.now) c.if-lists-gt-LISTS.true)
 
 pub returns-then-long_name : goal.returns-then-long_name
 unfolding plan_verdict
 returns-then-long_name c =
     let few-steps : too_many_steps c.args.steps.now ≡ false =
-        sym c.too_many_steps.ensures ∙ c.if-too_many_steps.false in
+    sym c.too_many_steps.ensures ∙ c.if-too_many_steps.false in
     let few-lists : too_many_lists c.args.lists.now ≡ false =
-        le-ltb most_lists (length c.args.lists.now) c.if-lists-gt-LISTS.false in
+    le-ltb most_lists (length c.args.lists.now) c.if-lists-gt-LISTS.false in
     rw (few-steps, few-lists, sym c.long_name.ensures ∙ c.if-long_name.true)
 
 pub returns-then-no_such_move : goal.returns-then-no_such_move
 unfolding plan_verdict
 returns-then-no_such_move c =
     let few-steps : too_many_steps c.args.steps.now ≡ false =
-        sym c.too_many_steps.ensures ∙ c.if-too_many_steps.false in
+    sym c.too_many_steps.ensures ∙ c.if-too_many_steps.false in
     let few-lists : too_many_lists c.args.lists.now ≡ false =
-        le-ltb most_lists (length c.args.lists.now) c.if-lists-gt-LISTS.false in
+    le-ltb most_lists (length c.args.lists.now) c.if-lists-gt-LISTS.false in
     let short-names : long_name c.args.names.now c.args.ends.now ≡ false =
-        sym c.long_name.ensures ∙ c.if-long_name.false in
+    sym c.long_name.ensures ∙ c.if-long_name.false in
     rw (few-steps, few-lists, short-names, sym c.no_such_move.ensures ∙ c.if-no_such_move.true)
 
 pub returns : goal.returns
 unfolding plan_verdict
 returns c =
     let few-steps : too_many_steps c.args.steps.now ≡ false =
-        sym c.too_many_steps.ensures ∙ c.if-too_many_steps.false in
+    sym c.too_many_steps.ensures ∙ c.if-too_many_steps.false in
     let few-lists : too_many_lists c.args.lists.now ≡ false =
-        le-ltb most_lists (length c.args.lists.now) c.if-lists-gt-LISTS.false in
+    le-ltb most_lists (length c.args.lists.now) c.if-lists-gt-LISTS.false in
     let short-names : long_name c.args.names.now c.args.ends.now ≡ false =
-        sym c.long_name.ensures ∙ c.if-long_name.false in
+    sym c.long_name.ensures ∙ c.if-long_name.false in
     rw (few-steps, few-lists, short-names, sym c.no_such_move.ensures ∙ c.if-no_such_move.false)

@@ -17,13 +17,13 @@ loop-at-init c = (omega arith, refl, omega arith, refl)
 pub line_between-line-requires : goal.line_between-line-requires
 line_between-line-requires c =
     let inside : (c.loop-at.at ≤ c.line_end-end.result) × (c.line_end-end.result ≤ length c.args.text.now) =
-        end-within c.args.text.now c.loop-at.at c.line_end-end.result c.line_end-end.ensures (omega arith) in
+    end-within c.args.text.now c.loop-at.at c.line_end-end.result c.line_end-end.ensures (omega arith) in
     inside
 
 pub overflow_add-at : goal.overflow_add-at
 overflow_add-at c =
     let inside : (c.loop-at.at ≤ c.line_end-end.result) × (c.line_end-end.result ≤ length c.args.text.now) =
-        end-within c.args.text.now c.loop-at.at c.line_end-end.result c.line_end-end.ensures (omega arith) in
+    end-within c.args.text.now c.loop-at.at c.line_end-end.result c.line_end-end.ensures (omega arith) in
     omega arith
 
 pub overflow_cast-steps : goal.overflow_cast-steps
@@ -35,52 +35,51 @@ overflow_cast-steps c =
 pub offset_bounds-steps-m : goal.offset_bounds-steps-m
 offset_bounds-steps-m c =
     let turn : entries_of (drop c.loop-at.at c.args.text.now) ≡ entry_by c.word_of-word.result (name_of c.line_between-line.result.now) ∷ entries_of (drop (c.line_end-end.result + 1) c.args.text.now) =
-        entry_more c.args.text.now c.loop-at.at c.line_end-end.result c.line_end-end.ensures (omega arith)
-        c.line_between-line.ensures c.word_of-word.ensures refl in
+    entry_more c.args.text.now c.loop-at.at c.line_end-end.result c.line_end-end.ensures (omega arith)
+    c.line_between-line.ensures c.word_of-word.ensures refl in
     let found : steps_of (entries_of (drop c.loop-at.at c.args.text.now)) ≡ steps_below (entries_of (drop (c.line_end-end.result + 1) c.args.text.now)) ∷ steps_of (entries_of (drop (c.line_end-end.result + 1) c.args.text.now)) =
-        let text = c.args.text.now in
-        ap steps_of turn ∙ steps-move (name_of c.line_between-line.result.now) (entries_of (drop (c.line_end-end.result + 1) text)) c.word_of-word.result (sym c.is_move.ensures ∙ c.if-is_move.true) in
+    let text = c.args.text.now in
+    ap steps_of turn ∙ steps-move (name_of c.line_between-line.result.now) (entries_of (drop (c.line_end-end.result + 1) text)) c.word_of-word.result (sym c.is_move.ensures ∙ c.if-is_move.true) in
     omega (arith, ap length found)
 
 pub bounds-steps-m : goal.bounds-steps-m
 bounds-steps-m c =
     let turn : entries_of (drop c.loop-at.at c.args.text.now) ≡ entry_by c.word_of-word.result (name_of c.line_between-line.result.now) ∷ entries_of (drop (c.line_end-end.result + 1) c.args.text.now) =
-        entry_more c.args.text.now c.loop-at.at c.line_end-end.result c.line_end-end.ensures (omega arith)
-        c.line_between-line.ensures c.word_of-word.ensures refl in
+    entry_more c.args.text.now c.loop-at.at c.line_end-end.result c.line_end-end.ensures (omega arith)
+    c.line_between-line.ensures c.word_of-word.ensures refl in
     let found : steps_of (entries_of (drop c.loop-at.at c.args.text.now)) ≡ steps_below (entries_of (drop (c.line_end-end.result + 1) c.args.text.now)) ∷ steps_of (entries_of (drop (c.line_end-end.result + 1) c.args.text.now)) =
-        let text = c.args.text.now in
-        ap steps_of turn ∙ steps-move (name_of c.line_between-line.result.now) (entries_of (drop (c.line_end-end.result + 1) text)) c.word_of-word.result (sym c.is_move.ensures ∙ c.if-is_move.true) in
+    let text = c.args.text.now in
+    ap steps_of turn ∙ steps-move (name_of c.line_between-line.result.now) (entries_of (drop (c.line_end-end.result + 1) text)) c.word_of-word.result (sym c.is_move.ensures ∙ c.if-is_move.true) in
     omega (arith, ap length found, c.loop-at.invariant.1)
 
 pub overflow_add-m : goal.overflow_add-m
 overflow_add-m c =
     let turn : entries_of (drop c.loop-at.at c.args.text.now) ≡ entry_by c.word_of-word.result (name_of c.line_between-line.result.now) ∷ entries_of (drop (c.line_end-end.result + 1) c.args.text.now) =
-        entry_more c.args.text.now c.loop-at.at c.line_end-end.result c.line_end-end.ensures (omega arith)
-        c.line_between-line.ensures c.word_of-word.ensures refl in
+    entry_more c.args.text.now c.loop-at.at c.line_end-end.result c.line_end-end.ensures (omega arith)
+    c.line_between-line.ensures c.word_of-word.ensures refl in
     let found : steps_of (entries_of (drop c.loop-at.at c.args.text.now)) ≡ steps_below (entries_of (drop (c.line_end-end.result + 1) c.args.text.now)) ∷ steps_of (entries_of (drop (c.line_end-end.result + 1) c.args.text.now)) =
-        let text = c.args.text.now in
-        ap steps_of turn ∙ steps-move (name_of c.line_between-line.result.now) (entries_of (drop (c.line_end-end.result + 1) text)) c.word_of-word.result (sym c.is_move.ensures ∙ c.if-is_move.true) in
+    let text = c.args.text.now in
+    ap steps_of turn ∙ steps-move (name_of c.line_between-line.result.now) (entries_of (drop (c.line_end-end.result + 1) text)) c.word_of-word.result (sym c.is_move.ensures ∙ c.if-is_move.true) in
     omega (arith, ap length found)
 
 pub loop-at-smaller-then-is_move : goal.loop-at-smaller-then-is_move
 loop-at-smaller-then-is_move c =
     let inside : (c.loop-at.at ≤ c.line_end-end.result) × (c.line_end-end.result ≤ length c.args.text.now) =
-        end-within c.args.text.now c.loop-at.at c.line_end-end.result c.line_end-end.ensures (omega arith) in
+    end-within c.args.text.now c.loop-at.at c.line_end-end.result c.line_end-end.ensures (omega arith) in
     omega arith
 
 pub loop-at-preserved-then-is_move : goal.loop-at-preserved-then-is_move
 loop-at-preserved-then-is_move c =
     let inside : (c.loop-at.at ≤ c.line_end-end.result) × (c.line_end-end.result ≤ length c.args.text.now) =
-        end-within c.args.text.now c.loop-at.at c.line_end-end.result c.line_end-end.ensures (omega arith) in
+    end-within c.args.text.now c.loop-at.at c.line_end-end.result c.line_end-end.ensures (omega arith) in
     let turn : entries_of (drop c.loop-at.at c.args.text.now) ≡ entry_by c.word_of-word.result (name_of c.line_between-line.result.now) ∷ entries_of (drop (c.line_end-end.result + 1) c.args.text.now) =
-        entry_more c.args.text.now c.loop-at.at c.line_end-end.result c.line_end-end.ensures (omega arith)
-        c.line_between-line.ensures c.word_of-word.ensures refl in
+    entry_more c.args.text.now c.loop-at.at c.line_end-end.result c.line_end-end.ensures (omega arith)
+    c.line_between-line.ensures c.word_of-word.ensures refl in
     let found : steps_of (entries_of (drop c.loop-at.at c.args.text.now)) ≡ steps_below (entries_of (drop (c.line_end-end.result + 1) c.args.text.now)) ∷ steps_of (entries_of (drop (c.line_end-end.result + 1) c.args.text.now)) =
-        let text = c.args.text.now in
-        ap steps_of turn ∙ steps-move (name_of c.line_between-line.result.now) (entries_of (drop (c.line_end-end.result + 1) text)) c.word_of-word.result (sym c.is_move.ensures ∙ c.if-is_move.true) in
+    let text = c.args.text.now in
+    ap steps_of turn ∙ steps-move (name_of c.line_between-line.result.now) (entries_of (drop (c.line_end-end.result + 1) text)) c.word_of-word.result (sym c.is_move.ensures ∙ c.if-is_move.true) in
     let l = c.loop-at in
-    let rest = entries_of (drop (c.line_end-end.result + 1) c.args.text.now) in
-    (
+    let rest = entries_of (drop (c.line_end-end.result + 1) c.args.text.now) in (
       omega arith,
       simp length-set l.invariant.1,
       omega (arith, ap length found),
@@ -91,16 +90,16 @@ loop-at-preserved-then-is_move c =
 pub loop-at-smaller : goal.loop-at-smaller
 loop-at-smaller c =
     let inside : (c.loop-at.at ≤ c.line_end-end.result) × (c.line_end-end.result ≤ length c.args.text.now) =
-        end-within c.args.text.now c.loop-at.at c.line_end-end.result c.line_end-end.ensures (omega arith) in
+    end-within c.args.text.now c.loop-at.at c.line_end-end.result c.line_end-end.ensures (omega arith) in
     omega arith
 
 pub loop-at-preserved : goal.loop-at-preserved
 loop-at-preserved c =
     let inside : (c.loop-at.at ≤ c.line_end-end.result) × (c.line_end-end.result ≤ length c.args.text.now) =
-        end-within c.args.text.now c.loop-at.at c.line_end-end.result c.line_end-end.ensures (omega arith) in
+    end-within c.args.text.now c.loop-at.at c.line_end-end.result c.line_end-end.ensures (omega arith) in
     let turn : entries_of (drop c.loop-at.at c.args.text.now) ≡ entry_by c.word_of-word.result (name_of c.line_between-line.result.now) ∷ entries_of (drop (c.line_end-end.result + 1) c.args.text.now) =
-        entry_more c.args.text.now c.loop-at.at c.line_end-end.result c.line_end-end.ensures (omega arith)
-        c.line_between-line.ensures c.word_of-word.ensures refl in
+    entry_more c.args.text.now c.loop-at.at c.line_end-end.result c.line_end-end.ensures (omega arith)
+    c.line_between-line.ensures c.word_of-word.ensures refl in
     let text = c.args.text.now in
     let l = c.loop-at in
     let q = ap steps_of turn ∙ steps-other (name_of c.line_between-line.result.now) (entries_of (drop (c.line_end-end.result + 1) text)) c.word_of-word.result (sym c.is_move.ensures ∙ c.if-is_move.false) in (
