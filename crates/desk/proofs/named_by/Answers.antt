@@ -17,7 +17,7 @@ returns-in-3 c = rw c.in-3.keys3
 
 pub returns-in-4 : goal.returns-in-4
 unfolding named_by
-returns-in-4 c = rw c.before.in-4.keys4 c.operation_by.ensures
+returns-in-4 c = rw c.in-4.keys4 c.operation_by.ensures
 
 pub returns-in-5 : goal.returns-in-5
 unfolding named_by
@@ -38,7 +38,7 @@ returns-in-8 c = rw c.in-8.keys8
 pub returns-in_default : goal.returns-in_default
 unfolding named_by
 returns-in_default c =
-    let n = c.before.args.code in
+    let n = c.args.code in
     let r = c.in_default.rest in
     rw (
       ne_eqb n 1 r.0.0.0.0.0.0.0.1,

@@ -6,7 +6,7 @@ use Rattle.desk.proofs.outline.Goals as goal
 
 pub returns : goal.returns
 returns c =
-    let a = c.before.before.before.before.before.args in
+    let a = c.args in
     ap (λ (x : Tables). record {
       sagas = get_or a.counts.now 6 0;
       steps = a.steps.now;
@@ -14,4 +14,4 @@ returns c =
       objects = 0;
       dependencies = x.dependencies-1;
       declared = 0;
-    }) c.before.before.before.before.empty-none.ensures
+    }) c.empty-none.ensures

@@ -93,7 +93,7 @@ returns-in-22 c = rw c.in-22.keys22
 pub returns-in_default : goal.returns-in_default
 unfolding verdict_in
 returns-in_default c =
-    let n = c.before.args.n in
+    let n = c.args.n in
     let r = c.in_default.rest in
     rw (
       ne_eqb n 1 r.0.0.0.0.0.0.0.0.0.0.0.0.0.0.0.0.0.0.0.0.0.1,

@@ -7,8 +7,8 @@ use Rattle.sagalib.proofs.saga_lent_open.Goals as goal
 
 pub returns : goal.returns
 returns c =
-    let a = c.before.before.before.before.before.before.before.before.before.before.before.before.before.args in
-    let o = c.before.before.before.before.before.open_on in
+    let a = c.args in
+    let o = c.open_on in
     let d = desk_of o.new.1.1.0 o.new.1.1.1.0 o.new.1.1.1.1.0 o.new.1.1.1.1.1.0 o.new.1.1.1.1.1.1.0
     o.new.1.1.1.1.1.1.1.0 in
     (opened-is (judged a.way a.book.now) d o.ensures a.way a.book.now refl, o.ensures)
