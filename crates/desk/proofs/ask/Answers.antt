@@ -14,14 +14,13 @@ pub returns-in-Says : goal.returns-in-Says
 returns-in-Says c =
     λ j ws steps st.
     let a = c.args in
-    let d = c.asked-1.given in
     let is = still_open j _ (ended_is j a.sheet.now a.transactions.now a.ops.now ws steps a.counts.now st)
     c.if-ended-ne0.false in
     c.number.ensures
-    ∙ ap verdict_number (ruled-is j a.sheet.now a.transactions.now a.ops.now ws steps a.counts.now st d.0.0 _
+    ∙ ap verdict_number (ruled-is j a.sheet.now a.transactions.now a.ops.now ws steps a.counts.now st c.in-Says.event _
     (c.rule-ruled.ensures j.tables st.tables))
     ∙ open-asked j is _ _ (named-is j a.sheet.now a.transactions.now a.ops.now ws steps a.counts.now st a.code a.a a.b a.c
-    a.d _ c.edition_in-edition.ensures _ c.named_by-asked.ensures ∙ d.1)
+    a.d _ c.edition_in-edition.ensures _ c.named_by-asked.ensures ∙ c.in-Says.is)
 
 pub returns-in-NoCode : goal.returns-in-NoCode
 returns-in-NoCode c =

@@ -9,12 +9,8 @@ pub returns-then-reads_on : goal.returns-then-reads_on
 returns-then-reads_on c =
     let a = c.args in
     let circles = c.circles_in-circles in
-    c.read_by_lem.ensures ∙ judged-on a.way a.book.now circles.result circles.ensures
+    c.read_by.ensures ∙ judged-on a.way a.book.now circles.result circles.ensures
     (sym c.reads_on.ensures ∙ c.if-reads_on.true)
-
-read-to-first-refusal-permitting-circles-requires :
-    tie.Need-read-to-first-refusal-permitting-circles-requires
-read-to-first-refusal-permitting-circles-requires c κs = search rules
 
 pub returns-in-Forbidden : goal.returns-in-Forbidden
 returns-in-Forbidden c =

@@ -12,6 +12,6 @@ returns c =
     let left = c.left_of-left in
     let number = c.number-ended in
     let named = c.number-edition in
-    opened a.way a.book.now read.result read.ensures said.result phases.new.1.0 made.new.1.0 said.ensures phases.ensures
+    opened a.way a.book.now read.result read.ensures said.result phases.new.transactions made.new.ops said.ensures phases.ensures
     made.ensures
     left.result left.ensures number.result number.ensures named.result named.ensures

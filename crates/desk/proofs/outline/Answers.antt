@@ -12,6 +12,6 @@ returns c =
       steps = a.steps.now;
       plain = get_or a.counts.now 7 0;
       objects = 0;
-      dependencies = x.dependencies-1;
+      dependencies = x.dependencies;
       declared = 0;
     }) c.empty-none.ensures

@@ -24,7 +24,7 @@ returns-in-Says c =
     a.c a.d _ c.edition_in-edition.ensures _
     c.named_by-taken.ensures ∙ c.in-Says.is in
     let e = t.ensures j steps st in
-    let d = desk_of a.sheet.now t.new.1.0 t.new.1.1.0 t.new.1.1.1.0 steps t.new.1.1.1.1.0 in
+    let d = desk_of a.sheet.now t.new.transactions t.new.ops t.new.records steps t.new.counts in
     (e.0 ∙ open-asked j is _ _ said, subst (λ (x : Judgement). DeskStands x d) (open-taken j is _ _ said) e.1)
 
 pub returns-in-NoCode : goal.returns-in-NoCode

@@ -11,11 +11,11 @@ returns-in-Accepted c =
     let t = c.take-shown in
     let e = t.ensures j.tables st.tables in
     let told = c.in-Accepted.is in
-    let is = verdict-is j a.sheet.now a.transactions.now a.ops.now a.records.now steps a.counts.now st a.event t.new.1.0
-    t.new.1.1.0 t.result.verdict t.result.count t.result.left e.0 e.1.0 e.1.1 in (
+    let is = verdict-is j a.sheet.now a.transactions.now a.ops.now a.records.now steps a.counts.now st a.event t.new.transactions
+    t.new.ops t.result.verdict t.result.count t.result.left e.0 e.1.0 e.1.1 in (
       sym (ap verdict_number (sym is ∙ told)),
-      took j a.sheet.now a.transactions.now a.ops.now a.records.now steps a.counts.now st a.event t.new.1.0
-          t.new.1.1.0 t.result.verdict t.result.count t.result.left e.0 e.1.0 e.1.1
+      took j a.sheet.now a.transactions.now a.ops.now a.records.now steps a.counts.now st a.event t.new.transactions
+          t.new.ops t.result.verdict t.result.count t.result.left e.0 e.1.0 e.1.1
           told a.pupil _ c.note.ensures _ c.more-taken.ensures _ c.put_counts.ensures,
     )
 
@@ -26,10 +26,10 @@ returns-in-Refused c =
     let t = c.take-shown in
     let e = t.ensures j.tables st.tables in
     let told = c.in-Refused.is in
-    let is = verdict-is j a.sheet.now a.transactions.now a.ops.now a.records.now steps a.counts.now st a.event t.new.1.0
-    t.new.1.1.0 t.result.verdict t.result.count t.result.left e.0 e.1.0 e.1.1 in (
+    let is = verdict-is j a.sheet.now a.transactions.now a.ops.now a.records.now steps a.counts.now st a.event t.new.transactions
+    t.new.ops t.result.verdict t.result.count t.result.left e.0 e.1.0 e.1.1 in (
       c.number.ensures ∙ sym (ap verdict_number (sym is ∙ told)),
-      denied j a.sheet.now a.transactions.now a.ops.now a.records.now steps a.counts.now st a.event t.new.1.0
-          t.new.1.1.0 t.result.verdict t.result.count t.result.left e.0 e.1.0 e.1.1
+      denied j a.sheet.now a.transactions.now a.ops.now a.records.now steps a.counts.now st a.event t.new.transactions
+          t.new.ops t.result.verdict t.result.count t.result.left e.0 e.1.0 e.1.1
           _ told a.pupil _ c.more-denied.ensures _ c.put_counts-in-Refused.ensures,
     )

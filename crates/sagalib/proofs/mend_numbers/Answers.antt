@@ -12,5 +12,4 @@ returns-in-Wrote c = ap mend_numbers (sym c.in-Wrote.is)
 
 pub returns-in-Refuses : goal.returns-in-Refuses
 returns-in-Refuses c =
-    let v = c.mending-in-Refuses-1.given in
-    ap (λ (n : ℕ). four n v.0.1.0 v.0.1.1.0 0) c.number-number.ensures ∙ ap mend_numbers (sym v.1)
+    ap (λ (n : ℕ). four n c.in-Refuses.kept c.in-Refuses.place 0) c.number-number.ensures ∙ ap mend_numbers (sym c.in-Refuses.is)

@@ -9,5 +9,4 @@ returns-in-Wrote c = ap (outcome_numbers c.args.events) (sym c.in-Wrote.is)
 
 pub returns-in-Refuses : goal.returns-in-Refuses
 returns-in-Refuses c =
-    let v = c.outcome-in-Refuses-1.given in
-    ap (λ (n : ℕ). four n v.0.1.0 v.0.1.1.0 0) c.number-number.ensures ∙ ap (outcome_numbers c.args.events) (sym v.1)
+    ap (λ (n : ℕ). four n c.in-Refuses.before c.in-Refuses.place 0) c.number-number.ensures ∙ ap (outcome_numbers c.args.events) (sym c.in-Refuses.is)

@@ -13,5 +13,5 @@ returns c =
     let outcome = c.order_outcome-outcome in (
       replay-is a.way a.book.now read.result read.ensures a.list.now put.result put.ensures.0 outcome.result outcome.ensures
           c.outcome_numbers-numbers.result c.outcome_numbers-numbers.ensures,
-      put.ensures.1 ∙ ap (λ (r : Judgement). copy_room (order_of r.state-1.ops-1) a.list.now) read.ensures,
+      put.ensures.1 ∙ ap (λ (r : Judgement). copy_room (order_of r.state.ops) a.list.now) read.ensures,
     )

@@ -6,33 +6,22 @@ use Rattle.totals.specs.Figures.{grown, with_book}
 use Rattle.totals.specs.declared.SagaCounts.{SagaCounts}
 use Rattle.totals.proofs.FiguresLaws.{Small, counts-small, one-small}
 use borrow.Author.Rules.{rules}
-use Rattle.totals.proofs.with_book.Lts as lts
-use Rattle.totals.proofs.with_book.Reads as reads
-use Rattle.totals.proofs.with_book.Tie as tie
 use Rattle.totals.proofs.with_book.Goals as goal
-
--- how things stand at places where nothing is asked
-abbrev After-counts_of-counts : Type 0
-After-counts_of-counts = lts.After-counts_of tie.the-claims reads.Pre reads.Post
-
--- what the book adds
-small : (c : After-counts_of-counts) → Small c.counts_of-counts.result
-small c = subst⁻¹ Small c.counts_of-counts.ensures (counts-small _ _)
 
 pub grown-refused-requires : goal.grown-refused-requires
 grown-refused-requires c = omega (arith, c.one.ensures, one-small c.is_refused.result)
 
 pub grown-begun-requires : goal.grown-begun-requires
-grown-begun-requires c = (small c).begun
+grown-begun-requires c = (subst⁻¹ Small c.counts_of-counts.ensures (counts-small _ _)).begun
 
 pub grown-committed-requires : goal.grown-committed-requires
-grown-committed-requires c = (small c).committed
+grown-committed-requires c = (subst⁻¹ Small c.counts_of-counts.ensures (counts-small _ _)).committed
 
 pub grown-backed-requires : goal.grown-backed-requires
-grown-backed-requires c = (small c).backed
+grown-backed-requires c = (subst⁻¹ Small c.counts_of-counts.ensures (counts-small _ _)).backed
 
 pub grown-unsettled-requires : goal.grown-unsettled-requires
-grown-unsettled-requires c = (small c).unsettled
+grown-unsettled-requires c = (subst⁻¹ Small c.counts_of-counts.ensures (counts-small _ _)).unsettled
 
 pub returns : goal.returns
 unfolding with_book
