@@ -8,17 +8,17 @@ use Rattle.plan.proofs.name.Goals as goal
 
 pub slice_bounds-result-end : goal.slice_bounds-result-end
 slice_bounds-result-end c =
-    let a = c.before.before.before.before.before.args in
+    let a = c.args in
     let b = begin-within a.names.now a.ends.now a.k in
-    omega (arith, b, c.before.before.name_begin-begin.ensures)
+    omega (arith, b, c.name_begin-begin.ensures)
 
 pub returns-then-end-begin : goal.returns-then-end-begin
 returns-then-end-begin c =
-    let a = c.before.before.before.before.before.before.args in
-    let e : c.before.before.before.name_begin-begin.result-1 - c.before.before.before.name_begin-begin.result-1 ≡ c.before.before.name_end-end.result-1 - c.before.before.before.name_begin-begin.result-1 = omega arith in
-    ap (λ (n : ℕ). take n (drop c.before.before.before.name_begin-begin.result-1 a.names.now)) e ∙ name-between a.names.now a.ends.now a.k c.before.before.before.name_begin-begin.ensures c.before.before.name_end-end.ensures
+    let a = c.args in
+    let e : c.name_begin-begin.result - c.name_begin-begin.result ≡ c.name_end-end.result - c.name_begin-begin.result = omega arith in
+    ap (λ (n : ℕ). take n (drop c.name_begin-begin.result a.names.now)) e ∙ name-between a.names.now a.ends.now a.k c.name_begin-begin.ensures c.name_end-end.ensures
 
 pub returns : goal.returns
 returns c =
-    let a = c.before.before.before.before.before.before.args in
-    name-between a.names.now a.ends.now a.k c.before.before.before.name_begin-begin.ensures c.before.before.name_end-end.ensures
+    let a = c.args in
+    name-between a.names.now a.ends.now a.k c.name_begin-begin.ensures c.name_end-end.ensures

@@ -4,7 +4,6 @@ use mathlib.Core.Path.{◌≡◌, refl, sym, ◌∙◌}
 use Prim.Native.Nat.{◌-◌, ◌≤◌}
 use lib.ListN.{length, drop}
 use Rattle.plan.specs.Lines.{past_blanks}
-use Rattle.laws.proofs.Bools.{on-not, off-not}
 use Rattle.plan.proofs.TextLaws.{drop-whole, past_more, past_stop, past_end}
 use Rattle.plan.proofs.past_blanks.Goals as goal
 
@@ -13,20 +12,20 @@ loop-i-init c = (omega arith, refl)
 
 pub returns-then-not-is_blank : goal.returns-then-not-is_blank
 returns-then-not-is_blank c =
-    let a = c.before.before.before.before.before.before.before.args in
-    let l = c.before.before.before.before.before.loop-i in
-    let other = sym c.before.before.is_blank.ensures ∙ on-not c.before.before.is_blank.result-1 c.before.if-not-is_blank.true in
+    let a = c.args in
+    let l = c.loop-i in
+    let other = sym c.is_blank.ensures ∙ c.if-not-is_blank.true in
     drop-whole a.line.now l.i ∙ sym (l.invariant.1 ∙ past_stop a.around a.line.now l.i (omega arith) other)
 
 pub loop-i-preserved : goal.loop-i-preserved
 loop-i-preserved c =
-    let a = c.before.before.before.before.before.before.args in
-    let l = c.before.before.before.before.loop-i in
-    let blank = sym c.before.is_blank.ensures ∙ off-not c.before.is_blank.result-1 c.if-not-is_blank.false in
+    let a = c.args in
+    let l = c.loop-i in
+    let blank = sym c.is_blank.ensures ∙ c.if-not-is_blank.false in
     (omega arith, l.invariant.1 ∙ past_more a.around a.line.now l.i (omega arith) blank)
 
 pub returns : goal.returns
 returns c =
-    let a = c.before.before.before.before.args in
-    let l = c.before.before.loop-i in
+    let a = c.args in
+    let l = c.loop-i in
     drop-whole a.line.now l.i ∙ sym (l.invariant.1 ∙ past_end a.around a.line.now l.i (omega arith))

@@ -10,7 +10,7 @@ use Rattle.plan.proofs.LaidLaws.{laid_by}
 use Rattle.plan.proofs.put.Given as goal
 
 abbrev pub invariant-loop-i : goal.invariant-loop-i
-invariant-loop-i l = (l.i ≤ length l.initial.room) × (l.room ≡ paste l.at l.bytes l.initial.room l.i) × (length l.room ≡ length l.at)
+invariant-loop-i l = (l.i ≤ length l.bytes) × (l.room ≡ paste l.initial.room l.at l.bytes l.i) × (length l.room ≡ length l.initial.room)
 
 abbrev pub decreases-loop-i : goal.decreases-loop-i
-decreases-loop-i l = length l.initial.room - l.i
+decreases-loop-i l = length l.bytes - l.i

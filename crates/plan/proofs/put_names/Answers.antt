@@ -2,134 +2,165 @@ use borrow.Author.Rules.{rules}
 use native.Mathlib.Omega.{arith}
 use mathlib.Core.Path.{◌≡◌, refl, sym, ap, ◌∙◌}
 use mathlib.Core.List.{List, ◌∷◌}
+use mathlib.Core.Bool.{Bool, true}
 use Prim.Native.Nat.{ℕ, ◌+◌, ◌-◌, ◌≤◌, ◌<◌}
 use lib.ListN.{length, drop, length-set, length-append}
 use Rattle.plan.specs.Lines.{name_of, entry_by, entries_of}
 use Rattle.plan.specs.Reading.{names_in, joined, ends_from}
-use Rattle.plan.specs.Passes.{laid}
+use Rattle.plan.specs.Passes.{laid, has_name}
+use Rattle.plan.specs.declared.Word.{Word}
 use Rattle.plan.proofs.LaidLaws.{laid_none, laid_cons, laid-append}
 use Rattle.plan.proofs.EntryLaws.{end-within, entry_more, no-entries, names-none, joined-none, joined-cons, ends-none, ends-cons, names-on, names-off}
-use Rattle.plan.proofs.put_names.Lts as lts
-use Rattle.plan.proofs.put_names.Reads as reads
-use Rattle.plan.proofs.put_names.Tie as tie
 use Rattle.plan.proofs.put_names.Goals as goal
 
--- how things stand at places where nothing is asked
-abbrev After-line_end-end : Type 0
-After-line_end-end = lts.After-line_end tie.the-claims reads.Pre reads.Post goal.the-invariant-loop-at goal.the-decreases-loop-at
+-- a name stands before the names to come
+named : (text name line : List ℕ) (at end : ℕ) (lists : Bool) (w : Word) → entries_of (drop at text) ≡ entry_by w (name_of line) ∷ entries_of (drop (end + 1) text)
+    → has_name w lists ≡ true → name ≡ name_of line
+    → names_in lists (entries_of (drop at text)) ≡ name ∷ names_in lists (entries_of (drop (end + 1) text))
+named text name line at end lists w turn on same =
+    let rest = names_in lists (entries_of (drop (end + 1) text)) in
+    ap (names_in lists) turn ∙ names-on (name_of line) (entries_of (drop (end + 1) text)) w lists on ∙ ap (λ (x : List ℕ). x ∷ rest) (sym same)
 
-abbrev After-name_of-name : Type 0
-After-name_of-name = lts.After-name_of tie.the-claims reads.Pre reads.Post goal.the-invariant-loop-at goal.the-decreases-loop-at
-
-inside : (c : After-line_end-end)
-    → (c.before.before.loop-at.at ≤ c.line_end-end.result) × (c.line_end-end.result ≤ length c.before.before.before.before.before.before.args.text.now)
-inside c = end-within c.before.before.before.before.before.before.args.text.now c.before.before.loop-at.at c.line_end-end.result c.line_end-end.ensures (omega arith)
-
--- the line that a turn takes, and the lines behind it
-turn : (c : goal.After-word_of-word)
-    → entries_of (drop c.before.before.before.before.loop-at.at c.before.before.before.before.before.before.before.before.args.text.now)
-    ≡ entry_by c.word_of-word.result (name_of c.before.line_between-line.result.now) ∷ entries_of (drop (c.before.before.line_end-end.result + 1) c.before.before.before.before.before.before.before.before.args.text.now)
-turn c =
-    entry_more c.before.before.before.before.before.before.before.before.args.text.now c.before.before.before.before.loop-at.at c.before.before.line_end-end.result c.before.before.line_end-end.ensures (omega arith)
-    c.before.line_between-line.ensures c.word_of-word.ensures refl
+-- how many bytes the names to come have
+size : (name : List ℕ) (xs ys : List (List ℕ)) → xs ≡ name ∷ ys → length (joined xs) ≡ length name + length (joined ys)
+size name xs ys e = ap (λ (zs : List (List ℕ)). length (joined zs)) e ∙ ap length (joined-cons name ys) ∙ length-append name (joined ys)
 
 pub loop-at-init : goal.loop-at-init
 loop-at-init c = (omega arith, refl, refl, refl, refl, refl, refl)
 
 pub line_between-line-requires : goal.line_between-line-requires
-line_between-line-requires c = inside c
+line_between-line-requires c =
+    let inside = end-within c.args.text.now c.loop-at.at c.line_end-end.result c.line_end-end.ensures (omega arith) in
+    inside
 
 pub overflow_add-at : goal.overflow_add-at
-overflow_add-at c = let i = inside c.before.before in omega arith
-
--- a name stands before the names to come
-named : (c : After-name_of-name)
-    → names_in c.before.before.before.before.before.before.before.before.before.before.before.args.lists (entries_of (drop c.before.before.before.before.before.before.before.loop-at.at c.before.before.before.before.before.before.before.before.before.before.before.args.text.now))
-    ≡ c.name_of-name.result.now ∷ names_in c.before.before.before.before.before.before.before.before.before.before.before.args.lists (entries_of (drop (c.before.before.before.before.before.line_end-end.result + 1) c.before.before.before.before.before.before.before.before.before.before.before.args.text.now))
-named c =
-    let a = c.before.before.before.before.before.before.before.before.before.before.before.args in
-    let text = a.text.now in
-    let t = c.before.before.before in
-    let rest = names_in a.lists (entries_of (drop (t.before.before.line_end-end.result + 1) text)) in
-    ap (names_in a.lists) (turn t) ∙ names-on (name_of t.before.line_between-line.result.now) (entries_of (drop (t.before.before.line_end-end.result + 1) text)) t.word_of-word.result a.lists (sym c.before.before.has_name.ensures ∙ c.before.if-has_name.true)
-    ∙ ap (λ (x : List ℕ). x ∷ rest) (sym c.name_of-name.ensures)
-
--- how many bytes the names to come have
-size : (c : After-name_of-name)
-    → length (joined (names_in c.before.before.before.before.before.before.before.before.before.before.before.args.lists (entries_of (drop c.before.before.before.before.before.before.before.loop-at.at c.before.before.before.before.before.before.before.before.before.before.before.args.text.now))))
-    ≡ length c.name_of-name.result.now + length (joined (names_in c.before.before.before.before.before.before.before.before.before.before.before.args.lists (entries_of (drop (c.before.before.before.before.before.line_end-end.result + 1) c.before.before.before.before.before.before.before.before.before.before.before.args.text.now))))
-size c =
-    let a = c.before.before.before.before.before.before.before.before.before.before.before.args in
-    let name = c.name_of-name.result.now in
-    let rest = names_in a.lists (entries_of (drop (c.before.before.before.before.before.line_end-end.result + 1) a.text.now)) in
-    ap (λ (xs : List (List ℕ)). length (joined xs)) (named c) ∙ ap length (joined-cons name rest) ∙ length-append name (joined rest)
-
--- there is room for it
-room : (c : After-name_of-name)
-    → (c.before.before.before.before.before.before.before.loop-at.n + length c.name_of-name.result.now ≤ length c.before.before.before.before.before.before.before.loop-at.names)
-    × (c.before.before.before.before.before.before.before.loop-at.n + length c.name_of-name.result.now ≤ 65536) × (c.before.before.before.before.before.before.before.loop-at.k < length c.before.before.before.before.before.before.before.loop-at.ends)
-room c =
-    let pre = c.before.before.before.before.before.before.before.before.before.before.before.requires in
-    let l = c.before.before.before.before.before.before.before.loop-at in
-    let s = size c in (
-      omega (arith, s, pre.0, l.invariant.1, l.invariant.3),
-      omega (arith, s, pre.1.0, l.invariant.3),
-      omega (arith, ap length (named c), pre.1.1, l.invariant.2, l.invariant.4),
-    )
+overflow_add-at c =
+    let inside = end-within c.args.text.now c.loop-at.at c.line_end-end.result c.line_end-end.ensures (omega arith) in
+    omega arith
 
 pub put-requires : goal.put-requires
-put-requires c = (room c.before).0
+put-requires c =
+    let a = c.args in
+    let l = c.loop-at in
+    let end = c.line_end-end.result in
+    let name = c.name_of-name.result.now in
+    let line = c.line_between-line.result.now in
+    let turn = entry_more a.text.now l.at end c.line_end-end.ensures (omega arith) c.line_between-line.ensures c.word_of-word.ensures refl in
+    let q = named a.text.now name line l.at end a.lists c.word_of-word.result turn (sym c.has_name.ensures ∙ c.if-has_name.true) c.name_of-name.ensures in
+    let rest = names_in a.lists (entries_of (drop (end + 1) a.text.now)) in
+    let s = size name (names_in a.lists (entries_of (drop l.at a.text.now))) rest q in
+    omega (arith, s, c.requires.text_in_bounds, l.invariant.1, l.invariant.3)
 
 pub overflow_add-n : goal.overflow_add-n
-overflow_add-n c = omega (arith, (room c.before.before.before.before).1)
+overflow_add-n c =
+    let a = c.args in
+    let l = c.loop-at in
+    let end = c.line_end-end.result in
+    let name = c.name_of-name.result.now in
+    let line = c.line_between-line.result.now in
+    let turn = entry_more a.text.now l.at end c.line_end-end.ensures (omega arith) c.line_between-line.ensures c.word_of-word.ensures refl in
+    let q = named a.text.now name line l.at end a.lists c.word_of-word.result turn (sym c.has_name.ensures ∙ c.if-has_name.true) c.name_of-name.ensures in
+    let rest = names_in a.lists (entries_of (drop (end + 1) a.text.now)) in
+    let s = size name (names_in a.lists (entries_of (drop l.at a.text.now))) rest q in
+    omega (arith, s, c.requires.text_bound, l.invariant.3)
 
 pub overflow_cast-ends : goal.overflow_cast-ends
-overflow_cast-ends c = omega (arith, (room c.before.before.before.before).1)
+overflow_cast-ends c =
+    let a = c.args in
+    let l = c.loop-at in
+    let end = c.line_end-end.result in
+    let name = c.name_of-name.result.now in
+    let line = c.line_between-line.result.now in
+    let turn = entry_more a.text.now l.at end c.line_end-end.ensures (omega arith) c.line_between-line.ensures c.word_of-word.ensures refl in
+    let q = named a.text.now name line l.at end a.lists c.word_of-word.result turn (sym c.has_name.ensures ∙ c.if-has_name.true) c.name_of-name.ensures in
+    let rest = names_in a.lists (entries_of (drop (end + 1) a.text.now)) in
+    let s = size name (names_in a.lists (entries_of (drop l.at a.text.now))) rest q in
+    omega (arith, s, c.requires.text_bound, l.invariant.3)
 
 pub offset_bounds-ends-k : goal.offset_bounds-ends-k
-offset_bounds-ends-k c = omega (arith, (room c.before.before.before.before).2)
+offset_bounds-ends-k c =
+    let a = c.args in
+    let l = c.loop-at in
+    let end = c.line_end-end.result in
+    let name = c.name_of-name.result.now in
+    let line = c.line_between-line.result.now in
+    let turn = entry_more a.text.now l.at end c.line_end-end.ensures (omega arith) c.line_between-line.ensures c.word_of-word.ensures refl in
+    let q = named a.text.now name line l.at end a.lists c.word_of-word.result turn (sym c.has_name.ensures ∙ c.if-has_name.true) c.name_of-name.ensures in
+    let rest = names_in a.lists (entries_of (drop (end + 1) a.text.now)) in
+    let s = size name (names_in a.lists (entries_of (drop l.at a.text.now))) rest q in
+    omega (arith, ap length q, c.requires.text_in_bounds_2, l.invariant.2, l.invariant.4)
 
 pub bounds-ends-k : goal.bounds-ends-k
-bounds-ends-k c = (room c.before.before.before.before).2
+bounds-ends-k c =
+    let a = c.args in
+    let l = c.loop-at in
+    let end = c.line_end-end.result in
+    let name = c.name_of-name.result.now in
+    let line = c.line_between-line.result.now in
+    let turn = entry_more a.text.now l.at end c.line_end-end.ensures (omega arith) c.line_between-line.ensures c.word_of-word.ensures refl in
+    let q = named a.text.now name line l.at end a.lists c.word_of-word.result turn (sym c.has_name.ensures ∙ c.if-has_name.true) c.name_of-name.ensures in
+    let rest = names_in a.lists (entries_of (drop (end + 1) a.text.now)) in
+    let s = size name (names_in a.lists (entries_of (drop l.at a.text.now))) rest q in
+    omega (arith, ap length q, c.requires.text_in_bounds_2, l.invariant.2, l.invariant.4)
 
 pub overflow_add-k : goal.overflow_add-k
-overflow_add-k c = omega (arith, (room c.before.before.before.before).2)
+overflow_add-k c =
+    let a = c.args in
+    let l = c.loop-at in
+    let end = c.line_end-end.result in
+    let name = c.name_of-name.result.now in
+    let line = c.line_between-line.result.now in
+    let turn = entry_more a.text.now l.at end c.line_end-end.ensures (omega arith) c.line_between-line.ensures c.word_of-word.ensures refl in
+    let q = named a.text.now name line l.at end a.lists c.word_of-word.result turn (sym c.has_name.ensures ∙ c.if-has_name.true) c.name_of-name.ensures in
+    let rest = names_in a.lists (entries_of (drop (end + 1) a.text.now)) in
+    let s = size name (names_in a.lists (entries_of (drop l.at a.text.now))) rest q in
+    omega (arith, ap length q, c.requires.text_in_bounds_2, l.invariant.2, l.invariant.4)
 
 pub loop-at-smaller-then-has_name : goal.loop-at-smaller-then-has_name
-loop-at-smaller-then-has_name c = let i = inside c.before.before.before.before.before.before.before.before.before in omega arith
+loop-at-smaller-then-has_name c =
+    let inside = end-within c.args.text.now c.loop-at.at c.line_end-end.result c.line_end-end.ensures (omega arith) in
+    omega arith
 
 pub loop-at-preserved-then-has_name : goal.loop-at-preserved-then-has_name
 loop-at-preserved-then-has_name c =
-    let a = c.before.before.before.before.before.before.before.before.before.before.before.before.before.before.before.args in
-    let l = c.before.before.before.before.before.before.before.before.before.before.before.loop-at in
-    let i = inside c.before.before.before.before.before.before.before.before.before in
-    let r = room c.before.before.before.before in
-    let q = named c.before.before.before.before in
-    let name = c.before.before.before.before.name_of-name.result.now in
-    let rest = names_in a.lists (entries_of (drop (c.before.before.before.before.before.before.before.before.before.line_end-end.result + 1) a.text.now)) in
-    let p = c.before.before.put in (
+    let inside = end-within c.args.text.now c.loop-at.at c.line_end-end.result c.line_end-end.ensures (omega arith) in
+    let a = c.args in
+    let l = c.loop-at in
+    let end = c.line_end-end.result in
+    let name = c.name_of-name.result.now in
+    let line = c.line_between-line.result.now in
+    let turn = entry_more a.text.now l.at end c.line_end-end.ensures (omega arith) c.line_between-line.ensures c.word_of-word.ensures refl in
+    let q = named a.text.now name line l.at end a.lists c.word_of-word.result turn (sym c.has_name.ensures ∙ c.if-has_name.true) c.name_of-name.ensures in
+    let rest = names_in a.lists (entries_of (drop (end + 1) a.text.now)) in
+    let s = size name (names_in a.lists (entries_of (drop l.at a.text.now))) rest q in
+    let room : l.n + length name ≤ length l.names = omega (arith, s, c.requires.text_in_bounds, l.invariant.1, l.invariant.3) in
+    let place : l.k < length l.ends = omega (arith, ap length q, c.requires.text_in_bounds_2, l.invariant.2, l.invariant.4) in
+    let p = c.put in (
       omega arith,
-      p.auto.0 ∙ l.invariant.1,
+      p.auto.room ∙ l.invariant.1,
       simp length-set l.invariant.2,
-      omega (arith, size c.before.before.before.before, l.invariant.3),
+      omega (arith, s, l.invariant.3),
       omega (arith, ap length q, l.invariant.4),
       l.invariant.5 ∙ ap (λ (xs : List (List ℕ)). laid l.names l.n (joined xs)) q ∙ ap (laid l.names l.n) (joined-cons name rest)
-          ∙ laid-append l.names l.n name r.0 (joined rest) ∙ ap (λ (s : List ℕ). laid s (l.n + length name) (joined rest)) (sym p.ensures),
+          ∙ laid-append l.names l.n name room (joined rest) ∙ ap (λ (s : List ℕ). laid s (l.n + length name) (joined rest)) (sym p.ensures),
       l.invariant.6 ∙ ap (λ (xs : List (List ℕ)). laid l.ends l.k (ends_from l.n xs)) q ∙ ap (laid l.ends l.k) (ends-cons l.n name rest)
-          ∙ laid_cons l.ends l.k (l.n + length name) (ends_from (l.n + length name) rest) r.2,
+          ∙ laid_cons l.ends l.k (l.n + length name) (ends_from (l.n + length name) rest) place,
     )
 
 pub loop-at-smaller : goal.loop-at-smaller
-loop-at-smaller c = let i = inside c.before.before.before.before in omega arith
+loop-at-smaller c =
+    let inside = end-within c.args.text.now c.loop-at.at c.line_end-end.result c.line_end-end.ensures (omega arith) in
+    omega arith
 
 pub loop-at-preserved : goal.loop-at-preserved
 loop-at-preserved c =
-    let a = c.before.before.before.before.before.before.before.before.before.before.args in
-    let text = a.text.now in
-    let l = c.before.before.before.before.before.before.loop-at in
-    let t = c.before.before in
-    let i = inside c.before.before.before.before in
-    let q = ap (names_in a.lists) (turn t) ∙ names-off (name_of t.before.line_between-line.result.now) (entries_of (drop (t.before.before.line_end-end.result + 1) text)) t.word_of-word.result a.lists (sym c.before.has_name.ensures ∙ c.if-has_name.false) in (
+    let inside = end-within c.args.text.now c.loop-at.at c.line_end-end.result c.line_end-end.ensures (omega arith) in
+    let a = c.args in
+    let l = c.loop-at in
+    let end = c.line_end-end.result in
+    let line = c.line_between-line.result.now in
+    let turn = entry_more a.text.now l.at end c.line_end-end.ensures (omega arith) c.line_between-line.ensures c.word_of-word.ensures refl in
+    let q = ap (names_in a.lists) turn ∙ names-off (name_of line) (entries_of (drop (end + 1) a.text.now)) c.word_of-word.result a.lists (sym c.has_name.ensures ∙ c.if-has_name.false) in (
       omega arith,
       l.invariant.1,
       l.invariant.2,
@@ -141,15 +172,11 @@ loop-at-preserved c =
 
 pub returns : goal.returns
 returns c =
-    let a = c.before.before.before.before.before.args in
-    let l = c.before.loop-at in
-    let none = ap (names_in a.lists) (no-entries a.text.now l.at (omega arith)) ∙ names-none a.lists in (
-      sym (l.invariant.5 ∙ ap (λ (xs : List (List ℕ)). laid l.names l.n (joined xs)) none ∙ ap (laid l.names l.n) joined-none ∙ laid_none l.names l.n),
-      (
-        sym (l.invariant.6 ∙ ap (λ (xs : List (List ℕ)). laid l.ends l.k (ends_from l.n xs)) none ∙ ap (laid l.ends l.k) (ends-none l.n) ∙ laid_none l.ends l.k),
-        (
-          omega (arith, ap (λ (xs : List (List ℕ)). length (joined xs)) none, ap length joined-none, l.invariant.3),
-          omega (arith, ap length none, l.invariant.4),
-        ),
-      ),
-    )
+    let a = c.args in
+    let l = c.loop-at in
+    let none = ap (names_in a.lists) (no-entries a.text.now l.at (omega arith)) ∙ names-none a.lists in record {
+      names_after = sym (l.invariant.5 ∙ ap (λ (xs : List (List ℕ)). laid l.names l.n (joined xs)) none ∙ ap (laid l.names l.n) joined-none ∙ laid_none l.names l.n);
+      ends_after = sym (l.invariant.6 ∙ ap (λ (xs : List (List ℕ)). laid l.ends l.k (ends_from l.n xs)) none ∙ ap (laid l.ends l.k) (ends-none l.n) ∙ laid_none l.ends l.k);
+      bytes_value = omega (arith, ap (λ (xs : List (List ℕ)). length (joined xs)) none, ap length joined-none, l.invariant.3);
+      names_value = omega (arith, ap length none, l.invariant.4);
+    }

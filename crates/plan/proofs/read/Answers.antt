@@ -1,83 +1,74 @@
 use native.Mathlib.Omega.{arith}
 use mathlib.Core.Path.{refl, sym, ap, ◌∙◌}
 use lib.ListN.{length}
-use Rattle.laws.proofs.Bools.{on-not, off-not}
 use Rattle.plan.specs.declared.Counts.{Counts}
 use Rattle.plan.specs.declared.PlanRead.TheVariants.{Read}
 use Rattle.plan.specs.Lines.{entries_of}
 use Rattle.plan.specs.Reading.{plan_names, plan_ends, plan_steps, plan_lists, room_after}
 use Rattle.plan.proofs.ReadLaws.{room-kept, room-filled, answer-long, answer-not, answer-full, answer-read, told-counts, rooms}
+use borrow.Enum.Refused.{opened}
 use borrow.Author.Rules.{rules}
 use Rattle.plan.proofs.read.Goals as goal
 
 pub returns-then-text-gt-BYTES : goal.returns-then-text-gt-BYTES
 unfolding room_after
 returns-then-text-gt-BYTES c =
-    let a = c.before.before.before.before.before.before.args in
-    (answer-long a.text.now (length a.names.now) (length a.ends.now) (length a.steps.now) (length a.lists.now) (omega arith), (refl, (refl, (refl, refl))))
+    let a = c.args in record {
+      value = answer-long a.text.now (length a.names.now) (length a.ends.now) (length a.steps.now) (length a.lists.now) (omega arith);
+      names_after = refl;
+      ends_after = refl;
+      steps_after = refl;
+      lists_after = refl;
+    }
 
 pub returns-in_default : goal.returns-in_default
 returns-in_default c =
-    let a = c.before.before.before.before.before.before.before.before.args in
-    let x = c.before.counted-answer.result in
-    let m = c.in_default.keys2 in
-    let es = entries_of a.text.now in (
-      answer-not a.text.now (length a.names.now) (length a.ends.now) (length a.steps.now) (length a.lists.now) (omega arith) x c.before.counted-answer.ensures m,
-      (
-        room-kept x m (plan_names es) a.names.now,
-        (
-          room-kept x m (plan_ends es) a.ends.now,
-          (room-kept x m (plan_steps es) a.steps.now, room-kept x m (plan_lists es) a.lists.now),
-        ),
-      ),
-    )
+    let a = c.args in
+    let x = c.counted-answer.result in
+    let m = opened c.in_default.in_default-own.keys2 in
+    let es = entries_of a.text.now in record {
+      value = answer-not a.text.now (length a.names.now) (length a.ends.now) (length a.steps.now) (length a.lists.now) (omega arith) x c.counted-answer.ensures m;
+      names_after = room-kept x m (plan_names es) a.names.now;
+      ends_after = room-kept x m (plan_ends es) a.ends.now;
+      steps_after = room-kept x m (plan_steps es) a.steps.now;
+      lists_after = room-kept x m (plan_lists es) a.lists.now;
+    }
 
 pub returns-then-not-fit : goal.returns-then-not-fit
 unfolding room_after
 returns-then-not-fit c =
-    let a = c.before.before.before.before.before.before.before.before.before.before.before.args in
-    let v = c.before.before.before.answer-1.given in
-    let none = sym c.before.fit.ensures ∙ on-not c.before.fit.result c.if-not-fit.true in
-    (answer-full a.text.now (length a.names.now) (length a.ends.now) (length a.steps.now) (length a.lists.now) (omega arith) c.before.before.before.before.before.counted-answer.result c.before.before.before.before.before.counted-answer.ensures v.0.0 v.1 none, (refl, (refl, (refl, refl))))
+    let a = c.args in
+    let none = sym c.fit.ensures ∙ c.if-not-fit.true in record {
+      value = answer-full a.text.now (length a.names.now) (length a.ends.now) (length a.steps.now) (length a.lists.now) (omega arith) c.counted-answer.result c.counted-answer.ensures c.in-Read.counts c.in-Read.is none;
+      names_after = refl;
+      ends_after = refl;
+      steps_after = refl;
+      lists_after = refl;
+    }
 
 pub fill-requires : goal.fill-requires
 fill-requires c =
-    let a = c.before.before.before.before.before.before.before.before.before.before.before.before.before.before.before.args in
-    let v = c.before.before.before.before.before.before.before.answer-1.given in
-    let large = sym c.before.before.before.before.before.fit.ensures ∙ off-not c.before.before.before.before.before.fit.result c.before.before.before.before.if-not-fit.false in
-    let r = rooms v.0.0 (length a.names.now) (length a.ends.now) (length a.steps.now) (length a.lists.now) large in
-    let q = told-counts (entries_of a.text.now) v.0.0 (sym v.1 ∙ c.before.before.before.before.before.before.before.before.before.counted-answer.ensures) in (
-      omega arith,
-      (
-        (
-          omega (arith, r.0, ap (λ (n : Counts). n.names-1) q),
-          omega (arith, r.1, ap (λ (n : Counts). n.ends-1) q),
-        ),
-        (
-          omega (arith, r.2, ap (λ (n : Counts). n.moves) q),
-          omega (arith, r.3, ap (λ (n : Counts). n.lists-1) q),
-        ),
-      ),
-    )
+    let a = c.args in
+    let large = sym c.fit.ensures ∙ c.if-not-fit.false in
+    let r = rooms c.in-Read.counts (length a.names.now) (length a.ends.now) (length a.steps.now) (length a.lists.now) large in
+    let q = told-counts (entries_of a.text.now) c.in-Read.counts (sym c.in-Read.is ∙ c.counted-answer.ensures) in record {
+      text_len_bound = omega arith;
+      text_in_bounds = (omega (arith, r.0, ap (λ (n : Counts). n.names) q), omega (arith, r.1, ap (λ (n : Counts). n.ends) q));
+      text_in_bounds_2 = (omega (arith, r.2, ap (λ (n : Counts). n.moves) q), omega (arith, r.3, ap (λ (n : Counts). n.lists) q));
+    }
 
 pub returns : goal.returns
 returns c =
-    let a = c.before.before.before.before.before.before.before.before.before.before.before.before.before.before.before.before.before.before.before.before.before.before.before.before.args in
-    let v = c.before.before.before.before.before.before.before.before.before.before.before.before.before.before.before.before.answer-1.given in
-    let x = c.before.before.before.before.before.before.before.before.before.before.before.before.before.before.before.before.before.before.counted-answer.result in
-    let y = Read v.0.0 in
+    let a = c.args in
+    let v = c.in-Read.counts in
+    let x = c.counted-answer.result in
+    let y = Read v in
     let es = entries_of a.text.now in
-    let f = c.before.before.before.before.before.before.before.before.fill.ensures in
-    let large = sym c.before.before.before.before.before.before.before.before.before.before.before.before.before.before.fit.ensures ∙ off-not c.before.before.before.before.before.before.before.before.before.before.before.before.before.before.fit.result c.before.before.before.before.before.before.before.before.before.before.before.before.before.if-not-fit.false in (
-      sym v.1 ∙ answer-read a.text.now (length a.names.now) (length a.ends.now) (length a.steps.now) (length a.lists.now) (omega arith) x c.before.before.before.before.before.before.before.before.before.before.before.before.before.before.before.before.before.before.counted-answer.ensures v.0.0 v.1 large,
-      (
-        f.0 ∙ room-filled y v.0.0 refl (plan_names es) a.names.now,
-        (
-          f.1.0 ∙ room-filled y v.0.0 refl (plan_ends es) a.ends.now,
-          (
-            f.1.1.0 ∙ room-filled y v.0.0 refl (plan_steps es) a.steps.now,
-            f.1.1.1 ∙ room-filled y v.0.0 refl (plan_lists es) a.lists.now,
-          ),
-        ),
-      ),
-    )
+    let f = c.fill.ensures in
+    let large = sym c.fit.ensures ∙ c.if-not-fit.false in record {
+      value = sym c.in-Read.is ∙ answer-read a.text.now (length a.names.now) (length a.ends.now) (length a.steps.now) (length a.lists.now) (omega arith) x c.counted-answer.ensures v c.in-Read.is large;
+      names_after = f.names_after ∙ room-filled y v refl (plan_names es) a.names.now;
+      ends_after = f.ends_after ∙ room-filled y v refl (plan_ends es) a.ends.now;
+      steps_after = f.steps_after ∙ room-filled y v refl (plan_steps es) a.steps.now;
+      lists_after = f.lists_after ∙ room-filled y v refl (plan_lists es) a.lists.now;
+    }

@@ -5,4 +5,4 @@ use borrow.Author.Rules.{rules}
 use Rattle.plan.proofs.Word.not_clear.Goals as goal
 
 pub returns-in-Step : goal.returns-in-Step
-returns-in-Step c = sym (ap (λ (w : Word). not_clear w c.before.args.moves) c.enum_told-in-Step-1.given.1)
+returns-in-Step c = sym (ap (λ (w : Word). not_clear w c.args.moves) c.in-Step.is)
