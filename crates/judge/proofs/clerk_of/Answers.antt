@@ -16,7 +16,7 @@ plain : (sheet : List ℕ) (tables : Tables) → Holds tables sheet → (t : ℕ
 plain sheet tables h t e f = off-not (is_plain (sort_of tables t)) (sym (sorted (λ (x : Sort). not (is_plain x)) sheet tables h t e) ∙ f)
 
 pub returns-then-not_plain : goal.returns-then-not_plain
-returns-then-not_plain c.args.sheet.now tables h c.args.t c.not_plain.ensures c.if-not_plain.false =
+returns-then-not_plain c tables h =
     let a = c.args in
     rw (on-not (is_plain (sort_of tables a.t)) (sym (sorted (λ (x : Sort). not (is_plain x)) a.sheet.now tables h a.t c.not_plain.ensures) ∙ c.if-not_plain.true))
 

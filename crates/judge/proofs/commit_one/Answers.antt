@@ -35,7 +35,7 @@ returns-in_default c tables h k =
     let told : c.single-allowed.result ≡ verdict_by (single_lines tables ts ops a.t a.q child) = c.single-allowed.ensures tables h
         ∙ ap (λ (b : Bool). verdict_by (single_lines tables ts ops a.t a.q b)) (c.is_child-child.ensures ∙ ap is_child (c.clerk_of-clerk.ensures tables h)) in
     let change = change_of tables ts (CommitOne a.t a.q) in
-    shared-refused (single_lines tables ts ops a.t a.q child) (own ops a.t a.q) change told _ ?
+    shared-refused (single_lines tables ts ops a.t a.q child) (own ops a.t a.q) change told c.in_default.field-0 c.in_default.is
 
 -- past the shared lines the commit's own decide; the operation was accepted then, so that the test for dirty reads is of it
 pub returns-then-dirty_one : goal.returns-then-dirty_one
