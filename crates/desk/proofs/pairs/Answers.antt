@@ -11,4 +11,4 @@ returns c =
     let a = c.args in
     let whole = is_whole j sheet a.transactions.now a.ops.now ws steps a.counts.now st in
     let there = c.state_of-state.ensures whole ∙ state-is j sheet a.transactions.now a.ops.now ws steps a.counts.now st in
-    ap (λ (x : Report). x) (c.report_of-told.ensures ∙ ap report_of there)
+    ap (λ (x : Report). x.before) (c.report_of-told.ensures ∙ ap report_of there)
