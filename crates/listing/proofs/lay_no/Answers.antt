@@ -11,10 +11,8 @@ use Rattle.listing.proofs.LayLaws.{byte-laid, lays-no, no-long}
 use Rattle.listing.proofs.lay_no.Goals as goal
 
 -- three letters are laid
-abbrev front : (c : goal.Else-room-end) → List ℕ
-front c =
-    let a = c.args in
-    set (set (set a.room.now a.at 110) (a.at + 1) 111) (a.at + 2) 32
+abbrev front : List ℕ → ℕ → List ℕ
+front room at = set (set (set room at 110) (at + 1) 111) (at + 2) 32
 
 second : (k : ℕ) → k + 2 ≡ k + 1 + 1
 second k = omega arith
@@ -70,28 +68,25 @@ bounds-room-space c = simp length-set (omega arith)
 
 pub lay_number-requires : goal.lay_number-requires
 lay_number-requires c =
-    let front_long : length (front c) ≡ length c.args.room.now =
+    let front_long : length (front c.args.room.now c.args.at) ≡ length c.args.room.now =
         simp length-set refl in
     (c.digits-long.ensures, omega (arith, front_long))
 
 pub bounds-room-blank : goal.bounds-room-blank
 bounds-room-blank c =
-    let front_long : length (front c) ≡ length c.args.room.now =
+    let front_long : length (front c.args.room.now c.args.at) ≡ length c.args.room.now =
         simp length-set refl in
     omega (arith, c.lay_number.auto.room, front_long)
 
 pub lay_number-requires-2 : goal.lay_number-requires-2
 lay_number-requires-2 c =
-    let front_long : length (front c) ≡ length c.args.room.now =
+    let front_long : length (front c.args.room.now c.args.at) ≡ length c.args.room.now =
         simp length-set refl in
-    (
-  c.digits-wide.ensures,
-  simp length-set (omega (arith, c.lay_number.auto.room, front_long)),
-)
+    (c.digits-wide.ensures, simp length-set (omega (arith, c.lay_number.auto.room, front_long)))
 
 pub bounds-room-feed : goal.bounds-room-feed
 bounds-room-feed c =
-    let front_long : length (front c) ≡ length c.args.room.now =
+    let front_long : length (front c.args.room.now c.args.at) ≡ length c.args.room.now =
         simp length-set refl in
     let second-long : length (set c.lay_number.new.room (c.args.at + 3 + c.digits-long.result) 32) ≡ length c.args.room.now =
         simp length-set (c.lay_number.auto.room ∙ front_long) in
@@ -99,7 +94,7 @@ bounds-room-feed c =
 
 pub shape_of-room : goal.shape_of-room
 shape_of-room c =
-    let front_long : length (front c) ≡ length c.args.room.now =
+    let front_long : length (front c.args.room.now c.args.at) ≡ length c.args.room.now =
         simp length-set refl in
     let second-long : length (set c.lay_number.new.room (c.args.at + 3 + c.digits-long.result) 32) ≡ length c.args.room.now =
         simp length-set (c.lay_number.auto.room ∙ front_long) in
