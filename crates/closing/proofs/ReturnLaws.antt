@@ -2,10 +2,9 @@
 use Prim.Native.Nat.{ℕ, zero, suc, ◌+◌, ◌-◌}
 use native.Mathlib.Omega.{arith}
 use mathlib.Core.Path.{◌≡◌, refl, sym, ap, ◌∙◌}
-use mathlib.Core.Bool.{Bool, true, false, not}
+use mathlib.Core.Bool.{Bool, true, false}
 use borrow.Author.Tests.{eq-eqb, ne_eqb}
 use Rattle.laws.specs.Index.{sum_to}
-use Rattle.laws.proofs.Bools.{off-not, on-not}
 use Rattle.tables.specs.Sorts.{saga_of}
 use Rattle.terms.specs.declared.Saga.{Saga}
 use Rattle.tables.specs.declared.Tables.{Tables}
@@ -51,35 +50,35 @@ module _ (f n : ℕ) (P : ℕ → Phase) where
 -- ---- the saga of any index; b is the code's test whether there is one
 
 module _ (tables : Tables) (st : State) (i : ℕ) {b : Bool} (o : b ≡ is_listed tables i) where
-  module _ (h : not b ≡ true) where
+  module _ (h : b ≡ false) where
     pub outstanding-unlisted : 0 ≡ outstanding tables st i
     unfolding outstanding
-    outstanding-unlisted = rw (sym o ∙ on-not b h)
+    outstanding-unlisted = rw (sym o ∙ h)
 
     pub closing-unlisted : NoStep ≡ closing tables st i
     unfolding closing
-    closing-unlisted = rw (sym o ∙ on-not b h)
+    closing-unlisted = rw (sym o ∙ h)
 
     pub settled-unlisted : false ≡ settled tables st i
     unfolding settled
-    settled-unlisted = rw (sym o ∙ on-not b h)
+    settled-unlisted = rw (sym o ∙ h)
 
   -- the saga, and the phase p of S
-  module _ (h : not b ≡ false) (s : Saga) (q : s ≡ saga_of tables i) (p : Phase) (e : p ≡ own st.transactions s.first 0) where
+  module _ (h : b ≡ true) (s : Saga) (q : s ≡ saga_of tables i) (p : Phase) (e : p ≡ own st.transactions s.first 0) where
     pub outstanding-at : outstanding_by p s.steps (own st.transactions s.first) ≡ outstanding tables st i
     unfolding outstanding
     outstanding-at =
-        rw (sym o ∙ off-not b h, e)
+        rw (sym o ∙ h, e)
         (ap (λ (x : Saga). outstanding_by (own st.transactions x.first 0) x.steps (own st.transactions x.first)) q)
 
     pub closing_at : closing_by p s.first s.steps (own st.transactions s.first) ≡ closing tables st i
     unfolding closing
     closing_at =
-        rw (sym o ∙ off-not b h, e)
+        rw (sym o ∙ h, e)
         (ap (λ (x : Saga). closing_by (own st.transactions x.first 0) x.first x.steps (own st.transactions x.first)) q)
 
     pub settled_at : settled_by p s.steps (own st.transactions s.first) ≡ settled tables st i
     unfolding settled
     settled_at =
-        rw (sym o ∙ off-not b h, e)
+        rw (sym o ∙ h, e)
         (ap (λ (x : Saga). settled_by (own st.transactions x.first 0) x.steps (own st.transactions x.first)) q)

@@ -81,7 +81,7 @@ pub record Closes (tables : Tables) (i : ℕ) (now later : State) : Type 0 where
   -- the event of the closing step
   pub event : Event
   pub named : event_of (closing tables now i) ≡ some event
-  -- others' events leave it was
+  -- others' events leave it as it was
   pub named_later : event_of (closing tables later i) ≡ some event
   pub same_number : outstanding tables later i ≡ outstanding tables now i
   -- it is accepted

@@ -1,8 +1,10 @@
 -- What the contracts of the crate say of a case of an answer.
-use Prim.Native.Nat.{ℕ, ◌≤◌, ◌<◌}
-use mathlib.Core.Path.{◌≡◌, subst}
-use mathlib.Core.List.{List}
-use lib.ListN.{length}
+use Rattle.std.proofs.Common.{◌≡◌, ℕ, ◌+◌, ◌≤◌, ◌<◌, List, ◌++◌, length, take, subst, sym, ap, ◌∙◌}
+use Rattle.std.proofs.Math.Seq.{take-append-add}
+use Rattle.std.proofs.lemmas.List.{take-append-le}
+use Rattle.std.specs.Io.KnownBytes.{Consumes}
+use Rattle.std.proofs.KnownBytes.{Consumes-trans}
+use Rattle.core.specs.declared.option.Option.{Option}
 use Rattle.input.specs.Filling.{Within, Fits}
 use Rattle.input.specs.declared.Filled.{Filled}
 use Rattle.input.specs.declared.Filled.TheVariants.{Whole}
@@ -16,3 +18,11 @@ whole-within filled n room is within = subst (λ (f : Filled). Within f room) is
 -- a read of n bytes moved at least one, and no more than its part holds
 pub bytes_fit : (got : Got) (n most : ℕ) → got ≡ Bytes n → Fits got most → (0 < n) × (n ≤ most)
 bytes_fit got n most is fits = subst (λ (g : Got). Fits g most) is fits
+
+-- the front of a room grows by what was read into the part behind it
+pub front_grows : (a b c : Option (List ℕ)) (front part rest : List ℕ) (done n : ℕ) → length front ≡ done → n ≤ length part → Consumes a b front → Consumes b c (take n part)
+    → Consumes a c (take (done + n) (front ++ (part ++ rest)))
+front_grows a b c front part rest done n long fits before read =
+    let whole : take (done + n) (front ++ (part ++ rest)) ≡ front ++ take n part =
+    ap (λ (d : ℕ). take (d + n) (front ++ (part ++ rest))) (sym long) ∙ take-append-add front (part ++ rest) n ∙ ap (λ (l : List ℕ). front ++ l) (take-append-le n part rest fits) in
+    subst (Consumes a c) (sym whole) (Consumes-trans a b c front (take n part) before read)

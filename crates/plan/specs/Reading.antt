@@ -148,7 +148,7 @@ if_room TooLong names ends steps lists = TooLong
 unfoldable pub read_answer : List ℕ → ℕ → ℕ → ℕ → ℕ → PlanRead
 read_answer text names ends steps lists = cond (ltb most_bytes (length text)) TooLong (if_room (told (entries_of text)) names ends steps lists)
 
--- a room after it: what was written stands at its front; refused reading leaves it was
+-- a room after it: what was written stands at its front; refused reading leaves it as it was
 unfoldable pub room_after : PlanRead → List ℕ → List ℕ → List ℕ
 room_after (Read counts) written room = written ++ drop (length written) room
 room_after (NotUnderstood n) written room = room

@@ -13,15 +13,12 @@ use Rattle.laws.proofs.StepLaws.{down-hit, down-miss, down-end}
 use Rattle.closing.proofs.all_undone.Lts as lts
 use Rattle.closing.proofs.all_undone.Reads as reads
 use Rattle.closing.proofs.all_undone.Tie as tie
+use Rattle.closing.proofs.all_undone.Invariants.{due}
 use Rattle.closing.proofs.all_undone.Goals as goal
 
 -- how things stand at places where nothing is asked
 abbrev After-is_committed-in-loop-i : Type 0
 After-is_committed-in-loop-i = lts.After-is_committed2 tie.the-claims reads.Pre reads.Post goal.the-invariant-loop-i goal.the-decreases-loop-i
-
--- step i is committed and not undone
-abbrev due : ℕ → (ℕ → Phase) → ℕ → Bool
-due n P i = is_committed (P i) && not (undone n P i)
 
 -- the test of one step
 told : (c : After-is_committed-in-loop-i)

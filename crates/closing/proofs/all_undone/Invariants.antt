@@ -15,6 +15,10 @@ use Rattle.closing.proofs.all_undone.Reads as reads
 use Rattle.closing.proofs.all_undone.Tie as tie
 use Rattle.closing.proofs.all_undone.Given as goal
 
+-- step i is committed and not undone
+abbrev pub due : ℕ → (ℕ → Phase) → ℕ → Bool
+due n P i = is_committed (P i) && not (undone n P i)
+
 abbrev pub invariant-loop-i : goal.invariant-loop-i
 invariant-loop-i l = (l.i ≤ l.n) × (highest l.n (due l.n (own l.transactions l.first)) ≡ highest l.i (due l.n (own l.transactions l.first)))
 

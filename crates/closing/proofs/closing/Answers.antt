@@ -17,38 +17,38 @@ After-own-phase = lts.After-own tie.the-claims reads.Pre reads.Post
 
 -- by the phase of S
 by : (c : After-own-phase) (p : Phase) → c.own-phase.result ≡ p
-    → closing_by p c.before.saga_at-s.result.first c.before.saga_at-s.result.steps
-    (own c.before.before.before.before.before.args.state.transactions-1 c.before.saga_at-s.result.first)
-    ≡ closing c.before.before.before.before.before.args.tables c.before.before.before.before.before.args.state c.before.before.before.before.before.args.saga
+    → closing_by p c.saga_at-s.result.first c.saga_at-s.result.steps
+    (own c.args.state.transactions c.saga_at-s.result.first)
+    ≡ closing c.args.tables c.args.state c.args.saga
 by c p e =
-    let a = c.before.before.before.before.before.args in
-    let s = c.before.saga_at-s in
-    closing_at a.tables a.state a.saga c.before.before.before.before.is_listed.ensures c.before.before.before.if-not-is_listed.false s.result s.ensures p (sym e ∙ c.own-phase.ensures)
+    let a = c.args in
+    let s = c.saga_at-s in
+    closing_at a.tables a.state a.saga c.is_listed.ensures c.if-not-is_listed.false s.result s.ensures p (sym e ∙ c.own-phase.ensures)
 
 pub returns-then-not-is_listed : goal.returns-then-not-is_listed
 returns-then-not-is_listed c =
-    let a = c.before.before.args in
-    closing-unlisted a.tables a.state a.saga c.before.is_listed.ensures c.if-not-is_listed.true
+    let a = c.args in
+    closing-unlisted a.tables a.state a.saga c.is_listed.ensures c.if-not-is_listed.true
 
 pub returns-then-is_committed : goal.returns-then-is_committed
 returns-then-is_committed c =
     rw (
-      ← by c.before.before.before.before.before Active c.before.before.before.enum_told-in-Active-1.given.1,
-      told is_committed c.before.is_committed.ensures c.before.before.own-last.ensures c.if-is_committed.true,
+      ← by c.before.before.before.before Active c.in-Active.is,
+      told is_committed c.is_committed.ensures c.own-last.ensures c.if-is_committed.true,
     )
 
 pub returns-in-Idle : goal.returns-in-Idle
-returns-in-Idle c = by c.before.before Idle c.enum_told-1.given.1
+returns-in-Idle c = by c.before Idle c.in-Idle.is
 
 pub returns-else-is_committed : goal.returns-else-is_committed
 returns-else-is_committed c =
     rw (
-      ← by c.before.before.before.before.before Active c.before.before.before.enum_told-in-Active-1.given.1,
-      told is_committed c.before.is_committed.ensures c.before.before.own-last.ensures c.if-is_committed.false,
+      ← by c.before.before.before.before Active c.in-Active.is,
+      told is_committed c.is_committed.ensures c.own-last.ensures c.if-is_committed.false,
     )
 
 pub returns-in-Committed : goal.returns-in-Committed
-returns-in-Committed c = by c.before.before Committed c.enum_told-in-Committed-1.given.1
+returns-in-Committed c = by c.before Committed c.in-Committed.is
 
 pub returns-in-Aborted : goal.returns-in-Aborted
-returns-in-Aborted c = c.back_step.ensures ∙ by c.before.before.before Aborted c.before.enum_told-in-Aborted-1.given.1
+returns-in-Aborted c = c.back_step.ensures ∙ by c.before.before Aborted c.in-Aborted.is

@@ -11,15 +11,12 @@ use Rattle.laws.proofs.StepLaws.{highest-zero, down-hit, down-miss, down-end}
 use Rattle.closing.proofs.next_undo.Lts as lts
 use Rattle.closing.proofs.next_undo.Reads as reads
 use Rattle.closing.proofs.next_undo.Tie as tie
+use Rattle.closing.proofs.next_undo.Invariants.{due}
 use Rattle.closing.proofs.next_undo.Goals as goal
 
 -- how things stand at places where nothing is asked
 abbrev After-is_committed-in-loop-i : Type 0
 After-is_committed-in-loop-i = lts.After-is_committed2 tie.the-claims reads.Pre reads.Post goal.the-invariant-loop-i goal.the-decreases-loop-i
-
--- step i is committed, and its undo is not
-abbrev due : ℕ → (ℕ → Phase) → ℕ → Bool
-due n P i = is_committed (P i) && not (is_committed (P (n + i)))
 
 -- the test of one step
 told : (c : After-is_committed-in-loop-i)

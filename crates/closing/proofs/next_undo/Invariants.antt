@@ -13,6 +13,10 @@ use Rattle.closing.proofs.next_undo.Reads as reads
 use Rattle.closing.proofs.next_undo.Tie as tie
 use Rattle.closing.proofs.next_undo.Given as goal
 
+-- step i is committed, and its undo is not
+abbrev pub due : ℕ → (ℕ → Phase) → ℕ → Bool
+due n P i = is_committed (P i) && not (is_committed (P (n + i)))
+
 abbrev pub invariant-loop-i : goal.invariant-loop-i
 invariant-loop-i l = (l.i ≤ l.n - 1) × (highest (l.n - 1) (due l.n (own l.transactions l.first)) ≡ highest l.i (due l.n (own l.transactions l.first)))
 

@@ -7,45 +7,44 @@ use Rattle.desk.proofs.ask.Goals as goal
 pub returns-then-ended-ne0 : goal.returns-then-ended-ne0
 returns-then-ended-ne0 c =
     λ j ws steps st.
-    let a = c.before.before.args in
+    let a = c.args in
     closed-asked j _ (ended_is j a.sheet.now a.transactions.now a.ops.now ws steps a.counts.now st) c.if-ended-ne0.true _
 
 pub returns-in-Says : goal.returns-in-Says
 returns-in-Says c =
     λ j ws steps st.
-    let a = c.before.before.before.before.before.before.before.before.before.before.args in
-    let d = c.before.before.before.asked-1.given in
+    let a = c.args in
     let is = still_open j _ (ended_is j a.sheet.now a.transactions.now a.ops.now ws steps a.counts.now st)
-    c.before.before.before.before.before.before.before.before.if-ended-ne0.false in
+    c.if-ended-ne0.false in
     c.number.ensures
-    ∙ ap verdict_number (ruled-is j a.sheet.now a.transactions.now a.ops.now ws steps a.counts.now st d.0.0 _
-    (c.before.rule-ruled.ensures j.tables st.tables))
+    ∙ ap verdict_number (ruled-is j a.sheet.now a.transactions.now a.ops.now ws steps a.counts.now st c.in-Says.event _
+    (c.rule-ruled.ensures j.tables st.tables))
     ∙ open-asked j is _ _ (named-is j a.sheet.now a.transactions.now a.ops.now ws steps a.counts.now st a.code a.a a.b a.c
-    a.d _ c.before.before.before.before.before.before.edition_in-edition.ensures _ c.before.before.before.before.before.named_by-asked.ensures ∙ d.1)
+    a.d _ c.edition_in-edition.ensures _ c.named_by-asked.ensures ∙ c.in-Says.is)
 
 pub returns-in-NoCode : goal.returns-in-NoCode
 returns-in-NoCode c =
     λ j ws steps st.
-    let a = c.before.before.before.before.before.before.before.args in
+    let a = c.args in
     let is = still_open j _ (ended_is j a.sheet.now a.transactions.now a.ops.now ws steps a.counts.now st)
-    c.before.before.before.before.before.if-ended-ne0.false in
+    c.if-ended-ne0.false in
     open-asked j is _ _ (named-is j a.sheet.now a.transactions.now a.ops.now ws steps a.counts.now st a.code a.a a.b a.c
-    a.d _ c.before.before.before.edition_in-edition.ensures _ c.before.before.named_by-asked.ensures ∙ c.enum_told-1.given.1)
+    a.d _ c.edition_in-edition.ensures _ c.named_by-asked.ensures ∙ c.in-NoCode.is)
 
 pub returns-in-NoMark : goal.returns-in-NoMark
 returns-in-NoMark c =
     λ j ws steps st.
-    let a = c.before.before.before.before.before.before.before.args in
+    let a = c.args in
     let is = still_open j _ (ended_is j a.sheet.now a.transactions.now a.ops.now ws steps a.counts.now st)
-    c.before.before.before.before.before.if-ended-ne0.false in
+    c.if-ended-ne0.false in
     open-asked j is _ _ (named-is j a.sheet.now a.transactions.now a.ops.now ws steps a.counts.now st a.code a.a a.b a.c
-    a.d _ c.before.before.before.edition_in-edition.ensures _ c.before.before.named_by-asked.ensures ∙ c.enum_told-in-NoMark-1.given.1)
+    a.d _ c.edition_in-edition.ensures _ c.named_by-asked.ensures ∙ c.in-NoMark.is)
 
 pub returns-in-NoNumber : goal.returns-in-NoNumber
 returns-in-NoNumber c =
     λ j ws steps st.
-    let a = c.before.before.before.before.before.before.before.args in
+    let a = c.args in
     let is = still_open j _ (ended_is j a.sheet.now a.transactions.now a.ops.now ws steps a.counts.now st)
-    c.before.before.before.before.before.if-ended-ne0.false in
+    c.if-ended-ne0.false in
     open-asked j is _ _ (named-is j a.sheet.now a.transactions.now a.ops.now ws steps a.counts.now st a.code a.a a.b a.c
-    a.d _ c.before.before.before.edition_in-edition.ensures _ c.before.before.named_by-asked.ensures ∙ c.enum_told-in-NoNumber-1.given.1)
+    a.d _ c.edition_in-edition.ensures _ c.named_by-asked.ensures ∙ c.in-NoNumber.is)

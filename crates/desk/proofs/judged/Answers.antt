@@ -7,29 +7,25 @@ use Rattle.desk.proofs.judged.Goals as goal
 
 pub returns-then-reads_on : goal.returns-then-reads_on
 returns-then-reads_on c =
-    let a = c.before.before.before.before.before.args in
-    let circles = c.before.before.before.circles_in-circles in
-    c.read_by_lem.ensures ∙ judged-on a.way a.book.now circles.result circles.ensures
-    (sym c.before.before.reads_on.ensures ∙ c.before.if-reads_on.true)
-
-read-to-first-refusal-permitting-circles-requires :
-    tie.Need-read-to-first-refusal-permitting-circles-requires
-read-to-first-refusal-permitting-circles-requires c κs = search rules
+    let a = c.args in
+    let circles = c.circles_in-circles in
+    c.read_by.ensures ∙ judged-on a.way a.book.now circles.result circles.ensures
+    (sym c.reads_on.ensures ∙ c.if-reads_on.true)
 
 pub returns-in-Forbidden : goal.returns-in-Forbidden
 returns-in-Forbidden c =
-    let a = c.before.before.before.before.before.before.before.args in
-    let circles = c.before.before.before.before.before.circles_in-circles in
+    let a = c.args in
+    let circles = c.circles_in-circles in
     c.read_to_first_refusal.ensures
-    ∙ ap (λ (x : Circles). judgement_up_to x a.book.now) (sym c.before.enum_told-1.given.1)
+    ∙ ap (λ (x : Circles). judgement_up_to x a.book.now) (sym c.in-Forbidden.is)
     ∙ judged-to a.way a.book.now circles.result circles.ensures
-    (sym c.before.before.before.before.reads_on.ensures ∙ c.before.before.before.if-reads_on.false)
+    (sym c.reads_on.ensures ∙ c.if-reads_on.false)
 
 pub returns-in-Permitted : goal.returns-in-Permitted
 returns-in-Permitted c =
-    let a = c.before.before.before.before.before.before.before.args in
-    let circles = c.before.before.before.before.before.circles_in-circles in
+    let a = c.args in
+    let circles = c.circles_in-circles in
     c.read_to_first_refusal_permitting_circles.ensures
-    ∙ ap (λ (x : Circles). judgement_up_to x a.book.now) (sym c.before.enum_told-in-Permitted-1.given.1)
+    ∙ ap (λ (x : Circles). judgement_up_to x a.book.now) (sym c.in-Permitted.is)
     ∙ judged-to a.way a.book.now circles.result circles.ensures
-    (sym c.before.before.before.before.reads_on.ensures ∙ c.before.before.before.if-reads_on.false)
+    (sym c.reads_on.ensures ∙ c.if-reads_on.false)

@@ -2,10 +2,10 @@ use borrow.Author.Tests.{ne_eqb}
 use Rattle.desk.proofs.marked.Goals as goal
 
 pub returns-in-0 : goal.returns-in-0
-returns-in-0 c = rw c.in-0.keys1
+returns-in-0 c = rw c.in-0.is
 
 pub returns-in-1 : goal.returns-in-1
-returns-in-1 c = rw c.in-1.keys2
+returns-in-1 c = rw c.in-1.is
 
 pub returns-in_default : goal.returns-in_default
-returns-in_default c = rw (ne_eqb c.before.args.mark 0 c.in_default.rest.0.1, ne_eqb c.before.args.mark 1 c.in_default.rest.1)
+returns-in_default c = rw (ne_eqb c.args.mark 0 c.in_default-own.rest.0.1, ne_eqb c.args.mark 1 c.in_default-own.rest.1)

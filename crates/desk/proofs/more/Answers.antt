@@ -4,7 +4,7 @@ use borrow.Author.Rules.{rules}
 use Rattle.desk.proofs.more.Goals as goal
 
 pub returns-then-n : goal.returns-then-n
-returns-then-n c = rw (lt-ltb c.before.args.n 65536 (omega arith))
+returns-then-n c = rw (lt-ltb c.args.n 65536 (omega arith))
 
 pub returns : goal.returns
-returns c = rw (le-ltb c.before.args.n 65536 (omega arith))
+returns c = rw (le-ltb c.args.n 65536 (omega arith))

@@ -6,12 +6,12 @@ use Rattle.desk.proofs.outline.Goals as goal
 
 pub returns : goal.returns
 returns c =
-    let a = c.before.before.before.before.before.args in
+    let a = c.args in
     ap (λ (x : Tables). record {
       sagas = get_or a.counts.now 6 0;
       steps = a.steps.now;
       plain = get_or a.counts.now 7 0;
       objects = 0;
-      dependencies = x.dependencies-1;
+      dependencies = x.dependencies;
       declared = 0;
-    }) c.before.before.before.before.empty-none.ensures
+    }) c.empty-none.ensures

@@ -8,7 +8,7 @@ use Rattle.desk.proofs.pairs.Goals as goal
 pub returns : goal.returns
 returns c =
     λ j sheet ws steps st.
-    let a = c.before.before.before.before.args in
+    let a = c.args in
     let whole = is_whole j sheet a.transactions.now a.ops.now ws steps a.counts.now st in
-    let there = c.before.before.state_of-state.ensures whole ∙ state-is j sheet a.transactions.now a.ops.now ws steps a.counts.now st in
-    ap (λ (x : Report). x.before) (c.before.report_of-told.ensures ∙ ap report_of there)
+    let there = c.state_of-state.ensures whole ∙ state-is j sheet a.transactions.now a.ops.now ws steps a.counts.now st in
+    ap (λ (x : Report). x.before) (c.report_of-told.ensures ∙ ap report_of there)

@@ -9,7 +9,7 @@ use Rattle.desk.proofs.PutLaws.{Put, put_all, put-more, put-none}
 use Rattle.desk.proofs.put_operations.Given as goal
 
 abbrev pub invariant-loop-i : goal.invariant-loop-i
-invariant-loop-i l = (l.i ≤ l.initial.ops) × (l.initial.ops ≡ size l.total) × (((q : ℕ) → fits (op_at l.total q) ≡ true) → Put l.total l.i l.ops l.n)
+invariant-loop-i l = (l.i ≤ l.total) × (l.total ≡ size l.made) × (((q : ℕ) → fits (op_at l.made q) ≡ true) → Put l.made l.i l.ops l.n)
 
 abbrev pub decreases-loop-i : goal.decreases-loop-i
-decreases-loop-i l = l.initial.ops - l.i
+decreases-loop-i l = l.total - l.i

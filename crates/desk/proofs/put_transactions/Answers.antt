@@ -12,37 +12,29 @@ use Rattle.rules.specs.States.{idle, parent_of}
 use Rattle.rules.specs.declared.Transaction.{Transaction}
 use Rattle.rules.proofs.LentLaws.{length-put, none-begun}
 use Rattle.judge.proofs.ChangeLaws.{empty-whole}
-use Rattle.desk.proofs.put_transactions.Lts as lts
-use Rattle.desk.proofs.put_transactions.Reads as reads
-use Rattle.desk.proofs.put_transactions.Tie as tie
 use Rattle.desk.proofs.put_transactions.Goals as goal
-
--- how things stand at places where nothing is asked
-abbrev Start : Type 0
-Start = lts.Start tie.the-claims reads.Pre reads.Post goal.the-invariant-loop-t goal.the-decreases-loop-t
-
-whole : (c : Start) → length c.args.t1 ≡ most_transactions
-whole c = search (rules, length-mapped)
 
 pub loop-t-init : goal.loop-t-init
 loop-t-init c = (omega arith, ap length none-begun ∙ empty-whole.0, λ f. refl)
 
 pub loop-t-preserved : goal.loop-t-preserved
 loop-t-preserved c =
-    let l = c.before.before.before.before.loop-t in
-    let all = c.before.before.before.before.before.before.args.t1 in
+    let l = c.loop-t in
+    let whole : length c.args.all ≡ most_transactions = search (rules, length-mapped) in
+    let all = c.args.all in
     let ts = transactions_in l.transactions in
     let x = get_or all l.t idle in
     let e = c.put.ensures in (
       omega arith,
       ap length e ∙ length-put ts l.t x ∙ l.invariant.1,
       λ f.
-          let stored : transactions_in c.put.new.0 ≡ set ts l.t x = e ∙ rw (f l.t) in
+          let stored : transactions_in c.put.new.transactions ≡ set ts l.t x = e ∙ rw (f l.t) in
           ap (take (l.t + 1)) stored
-          ∙ copied_more all idle l.t ts x (l.invariant.2 f) (omega arith) (omega (arith, whole c.before.before.before.before.before.before)) refl,
+          ∙ copied_more all idle l.t ts x (l.invariant.2 f) (omega arith) (omega (arith, whole)) refl,
     )
 
 pub returns : goal.returns
 returns c =
-    let l = c.before.loop-t in
-    λ f. copied_all _ idle most_transactions l.t (transactions_in l.transactions) (l.invariant.2 f) (omega arith) l.invariant.1 (whole c.before.before.before)
+    let l = c.loop-t in
+    let whole : length c.args.all ≡ most_transactions = search (rules, length-mapped) in
+    λ f. copied_all _ idle most_transactions l.t (transactions_in l.transactions) (l.invariant.2 f) (omega arith) l.invariant.1 whole

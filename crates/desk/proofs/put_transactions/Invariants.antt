@@ -12,14 +12,11 @@ use Rattle.rules.specs.States.{idle, parent_of}
 use Rattle.rules.specs.declared.Transaction.{Transaction}
 use Rattle.rules.proofs.LentLaws.{length-put, none-begun}
 use Rattle.judge.proofs.ChangeLaws.{empty-whole}
-use Rattle.desk.proofs.put_transactions.Lts as lts
-use Rattle.desk.proofs.put_transactions.Reads as reads
-use Rattle.desk.proofs.put_transactions.Tie as tie
 use Rattle.desk.proofs.put_transactions.Given as goal
 
 abbrev pub invariant-loop-t : goal.invariant-loop-t
 invariant-loop-t l = (l.t ≤ most_transactions) × (length (transactions_in l.transactions) ≡ most_transactions) ×
-    (((u : ℕ) → parent_fits (parent_of l.initial.transactions u) ≡ true) → take l.t (transactions_in l.transactions) ≡ take l.t l.initial.transactions)
+    (((u : ℕ) → parent_fits (parent_of l.all u) ≡ true) → take l.t (transactions_in l.transactions) ≡ take l.t l.all)
 
 abbrev pub decreases-loop-t : goal.decreases-loop-t
 decreases-loop-t l = most_transactions - l.t

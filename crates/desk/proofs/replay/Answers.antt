@@ -9,10 +9,10 @@ use Rattle.desk.proofs.replay.Goals as goal
 pub returns : goal.returns
 returns c =
     λ j sheet transactions ws steps st.
-    let a = c.before.before.before.before.before.before.before.args in
+    let a = c.args in
     let whole = is_whole j sheet transactions a.ops.now ws steps a.counts.now st in
-    let put = c.before.before.put_order in
-    let there = c.before.before.before.before.ops_of-made.ensures whole.1 ∙ ops-are j sheet transactions a.ops.now ws steps a.counts.now st in (
+    let put = c.put_order in
+    let there = c.ops_of-made.ensures whole.1 ∙ ops-are j sheet transactions a.ops.now ws steps a.counts.now st in (
       put.ensures.0 ∙ ap (λ (x : Ops). copy_answer (order_of x) a.list.now) there,
       put.ensures.1 ∙ ap (λ (x : Ops). copy_room (order_of x) a.list.now) there,
     )

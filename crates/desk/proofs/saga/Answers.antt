@@ -7,8 +7,8 @@ use Rattle.desk.proofs.saga.Goals as goal
 pub returns : goal.returns
 returns c =
     λ j sheet ws st.
-    let a = c.before.before.before.before.args in
+    let a = c.args in
     let whole = is_whole j sheet a.transactions.now a.ops.now ws a.steps.now a.counts.now st in
     c.saga_of.ensures
-    ∙ saga-is j sheet a.transactions.now a.ops.now ws a.steps.now a.counts.now st _ c.before.before.before.outline-tables.ensures _
-    (c.before.state_of-state.ensures whole) a.index
+    ∙ saga-is j sheet a.transactions.now a.ops.now ws a.steps.now a.counts.now st _ c.outline-tables.ensures _
+    (c.state_of-state.ensures whole) a.index

@@ -5,13 +5,13 @@ use Rattle.desk.proofs.saga_of.Goals as goal
 
 pub returns-then-i-saga_count : goal.returns-then-i-saga_count
 returns-then-i-saga_count c =
-    let a = c.before.before.before.before.before.before.before.args in
-    saga-there a.tables a.state a.index (omega (arith, c.before.before.before.before.before.before.saga_count.ensures)) _
-    c.before.before.before.before.closing-step.ensures _ c.before.before.before.outstanding-owed.ensures _ c.before.before.settled-settled.ensures _
-    c.before.one-done.ensures _
+    let a = c.args in
+    saga-there a.tables a.state a.index (omega (arith, c.saga_count.ensures)) _
+    c.closing-step.ensures _ c.outstanding-owed.ensures _ c.settled-settled.ensures _
+    c.one-done.ensures _
     c.saga_numbers.ensures
 
 pub returns : goal.returns
 returns c =
-    let a = c.before.before.args in
-    saga-none a.tables a.state a.index (omega (arith, c.before.saga_count.ensures))
+    let a = c.args in
+    saga-none a.tables a.state a.index (omega (arith, c.saga_count.ensures))

@@ -8,7 +8,7 @@ use Rattle.desk.proofs.take.Goals as goal
 pub returns-then-ended-ne0 : goal.returns-then-ended-ne0
 returns-then-ended-ne0 c =
     λ j steps st.
-    let a = c.before.before.args in
+    let a = c.args in
     let ended = ended_is j a.sheet.now a.transactions.now a.ops.now a.records.now steps a.counts.now st in
     let d = desk_of a.sheet.now a.transactions.now a.ops.now a.records.now steps a.counts.now in
     (closed-asked j _ ended c.if-ended-ne0.true _, subst (λ (x : Judgement). DeskStands x d) (closed-taken j _ ended c.if-ended-ne0.true _) st)
@@ -16,49 +16,49 @@ returns-then-ended-ne0 c =
 pub returns-in-Says : goal.returns-in-Says
 returns-in-Says c =
     λ j steps st.
-    let a = c.before.before.before.before.before.before.before.before.before.before.before.before.before.args in
+    let a = c.args in
     let t = c.take_event in
     let is = still_open j _ (ended_is j a.sheet.now a.transactions.now a.ops.now a.records.now steps a.counts.now st)
-    c.before.before.before.before.before.before.before.before.before.before.before.if-ended-ne0.false in
+    c.if-ended-ne0.false in
     let said = named-is j a.sheet.now a.transactions.now a.ops.now a.records.now steps a.counts.now st a.code a.a a.b
-    a.c a.d _ c.before.before.before.before.before.before.before.before.before.edition_in-edition.ensures _
-    c.before.before.before.before.before.before.before.before.named_by-taken.ensures ∙ c.before.before.before.before.before.before.taken-1.given.1 in
+    a.c a.d _ c.edition_in-edition.ensures _
+    c.named_by-taken.ensures ∙ c.in-Says.is in
     let e = t.ensures j steps st in
-    let d = desk_of a.sheet.now t.new.1.0 t.new.1.1.0 t.new.1.1.1.0 steps t.new.1.1.1.1.0 in
+    let d = desk_of a.sheet.now t.new.transactions t.new.ops t.new.records steps t.new.counts in
     (e.0 ∙ open-asked j is _ _ said, subst (λ (x : Judgement). DeskStands x d) (open-taken j is _ _ said) e.1)
 
 pub returns-in-NoCode : goal.returns-in-NoCode
 returns-in-NoCode c =
     λ j steps st.
-    let a = c.before.before.before.before.before.before.before.args in
+    let a = c.args in
     let is = still_open j _ (ended_is j a.sheet.now a.transactions.now a.ops.now a.records.now steps a.counts.now st)
-    c.before.before.before.before.before.if-ended-ne0.false in
+    c.if-ended-ne0.false in
     let said = named-is j a.sheet.now a.transactions.now a.ops.now a.records.now steps a.counts.now st a.code a.a a.b
-    a.c a.d _ c.before.before.before.edition_in-edition.ensures _ c.before.before.named_by-taken.ensures ∙ c.enum_told-1.given.1 in
+    a.c a.d _ c.edition_in-edition.ensures _ c.named_by-taken.ensures ∙ c.in-NoCode.is in
     let d = desk_of a.sheet.now a.transactions.now a.ops.now a.records.now steps a.counts.now in
     (open-asked j is _ _ said, subst (λ (x : Judgement). DeskStands x d) (open-taken j is _ _ said) st)
 
 pub returns-in-NoNumber : goal.returns-in-NoNumber
 returns-in-NoNumber c =
     λ j steps st.
-    let a = c.before.before.before.before.before.before.before.args in
+    let a = c.args in
     let is = still_open j _ (ended_is j a.sheet.now a.transactions.now a.ops.now a.records.now steps a.counts.now st)
-    c.before.before.before.before.before.if-ended-ne0.false in
+    c.if-ended-ne0.false in
     let said = named-is j a.sheet.now a.transactions.now a.ops.now a.records.now steps a.counts.now st a.code a.a a.b
-    a.c a.d _ c.before.before.before.edition_in-edition.ensures _ c.before.before.named_by-taken.ensures ∙ c.enum_told-in-NoNumber-1.given.1 in
+    a.c a.d _ c.edition_in-edition.ensures _ c.named_by-taken.ensures ∙ c.in-NoNumber.is in
     let d = desk_of a.sheet.now a.transactions.now a.ops.now a.records.now steps a.counts.now in
     (open-asked j is _ _ said, subst (λ (x : Judgement). DeskStands x d) (open-taken j is _ _ said) st)
 
 pub returns-in-NoMark : goal.returns-in-NoMark
 returns-in-NoMark c =
     λ j steps st.
-    let a = c.before.before.before.before.before.before.before.before.before.before.before.before.before.before.args in
+    let a = c.args in
     let is = still_open j _ (ended_is j a.sheet.now a.transactions.now a.ops.now a.records.now steps a.counts.now st)
-    c.before.before.before.before.before.before.before.before.before.before.before.before.if-ended-ne0.false in
+    c.if-ended-ne0.false in
     let said = named-is j a.sheet.now a.transactions.now a.ops.now a.records.now steps a.counts.now st a.code a.a a.b
-    a.c a.d _ c.before.before.before.before.before.before.before.before.before.before.edition_in-edition.ensures _
-    c.before.before.before.before.before.before.before.before.before.named_by-taken.ensures ∙ c.before.before.before.before.before.before.before.enum_told-in-NoMark-1.given.1 in
+    a.c a.d _ c.edition_in-edition.ensures _
+    c.named_by-taken.ensures ∙ c.in-NoMark.is in
     let over = passes j a.sheet.now a.transactions.now a.ops.now a.records.now steps a.counts.now st _
-    c.before.before.more-passed.ensures _ c.put_counts.ensures in
-    let d = desk_of a.sheet.now a.transactions.now a.ops.now a.records.now steps c.put_counts.new.0 in
+    c.more-passed.ensures _ c.put_counts.ensures in
+    let d = desk_of a.sheet.now a.transactions.now a.ops.now a.records.now steps c.put_counts.new.counts in
     (open-asked j is _ _ said, subst (λ (x : Judgement). DeskStands x d) (open-taken j is _ _ said) over)

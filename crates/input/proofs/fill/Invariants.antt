@@ -1,13 +1,10 @@
-use native.Mathlib.Omega.{arith}
-use borrow.Author.Rules.{rules}
-use Prim.Native.Nat.{◌+◌, ◌-◌, ◌≤◌}
-use mathlib.Core.Path.{◌≡◌}
-use lib.ListN.{length}
-use Rattle.input.proofs.FillingLaws.{bytes_fit}
+-- What stands in the room so far is what the input lost.
+use Rattle.std.proofs.Common.{◌≡◌, ◌≤◌, ◌+◌, ◌-◌, length, take}
+use Rattle.std.specs.Io.KnownBytes.{Consumes}
 use Rattle.input.proofs.fill.Given as goal
 
 abbrev pub invariant-loop-done : goal.invariant-loop-done
-invariant-loop-done l = (l.done ≤ length l.initial.room) × (length l.room ≡ length l.initial.room)
+invariant-loop-done g l = (l.done ≤ length l.initial.room) × (length l.room ≡ length l.initial.room) × Consumes (g.R.Read.remaining l.initial.reader) (g.R.Read.remaining l.reader) (take l.done l.room)
 
 abbrev pub decreases-loop-done : goal.decreases-loop-done
-decreases-loop-done l = (length l.initial.room - l.done) + l.patience
+decreases-loop-done g l = (length l.initial.room - l.done) + l.patience

@@ -8,22 +8,22 @@ use borrow.Author.Rules.{rules}
 use Rattle.meeting.proofs.row_line.Goals as goal
 
 pub returns-in-BooksRead : goal.returns-in-BooksRead
-returns-in-BooksRead c = c.count_row.ensures ∙ ap (λ (r : Row). with_all [] (row_of c.before.before.before.before.args.totals r)) (sym c.before.before.enum_told-1.given.1)
+returns-in-BooksRead c = c.count_row.ensures ∙ ap (λ (r : Row). with_all [] (row_of c.args.totals r)) (sym c.in-BooksRead.is)
 
 pub returns-in-BooksRefused : goal.returns-in-BooksRefused
-returns-in-BooksRefused c = c.count_row-in-BooksRefused.ensures ∙ ap (λ (r : Row). with_all [] (row_of c.before.before.before.before.args.totals r)) (sym c.before.before.enum_told-in-BooksRefused-1.given.1)
+returns-in-BooksRefused c = c.count_row-in-BooksRefused.ensures ∙ ap (λ (r : Row). with_all [] (row_of c.args.totals r)) (sym c.in-BooksRefused.is)
 
 pub returns-in-Begun : goal.returns-in-Begun
-returns-in-Begun c = c.count_row-in-Begun.ensures ∙ ap (λ (r : Row). with_all [] (row_of c.before.before.before.before.args.totals r)) (sym c.before.before.enum_told-in-Begun-1.given.1)
+returns-in-Begun c = c.count_row-in-Begun.ensures ∙ ap (λ (r : Row). with_all [] (row_of c.args.totals r)) (sym c.in-Begun.is)
 
 pub returns-in-Committed : goal.returns-in-Committed
-returns-in-Committed c = c.count_row-in-Committed.ensures ∙ ap (λ (r : Row). with_all [] (row_of c.before.before.before.before.args.totals r)) (sym c.before.before.enum_told-in-Committed-1.given.1)
+returns-in-Committed c = c.count_row-in-Committed.ensures ∙ ap (λ (r : Row). with_all [] (row_of c.args.totals r)) (sym c.in-Committed.is)
 
 pub returns-in-BackedOut : goal.returns-in-BackedOut
-returns-in-BackedOut c = c.count_row-in-BackedOut.ensures ∙ ap (λ (r : Row). with_all [] (row_of c.before.before.before.before.args.totals r)) (sym c.before.before.enum_told-in-BackedOut-1.given.1)
+returns-in-BackedOut c = c.count_row-in-BackedOut.ensures ∙ ap (λ (r : Row). with_all [] (row_of c.args.totals r)) (sym c.in-BackedOut.is)
 
 pub returns-in-StillOpen : goal.returns-in-StillOpen
-returns-in-StillOpen c = c.count_row-in-StillOpen.ensures ∙ ap (λ (r : Row). with_all [] (row_of c.before.before.before.before.args.totals r)) (sym c.before.before.enum_told-in-StillOpen-1.given.1)
+returns-in-StillOpen c = c.count_row-in-StillOpen.ensures ∙ ap (λ (r : Row). with_all [] (row_of c.args.totals r)) (sym c.in-StillOpen.is)
 
 pub returns-in-OfThoseBegun : goal.returns-in-OfThoseBegun
-returns-in-OfThoseBegun c = c.share_row.ensures ∙ ap (λ (r : Share). with_all [] (share_row r)) c.before.share.ensures ∙ ap (λ (r : Row). with_all [] (row_of c.before.before.before.before.args.totals r)) (sym c.before.before.enum_told-in-OfThoseBegun-1.given.1)
+returns-in-OfThoseBegun c = c.share_row.ensures ∙ ap (λ (r : Share). with_all [] (share_row r)) c.share.ensures ∙ ap (λ (r : Row). with_all [] (row_of c.args.totals r)) (sym c.in-OfThoseBegun.is)

@@ -4,7 +4,7 @@ use borrow.Author.Rules.{rules}
 use Rattle.sagalib.proofs.listing_outcome.Goals as goal
 
 pub returns-in-Wrote : goal.returns-in-Wrote
-returns-in-Wrote c = ap (listing_outcome c.before.before.before.args.events) (sym c.before.put-1.given.1)
+returns-in-Wrote c = ap (listing_outcome c.args.events) (sym c.in-Wrote.is)
 
 pub returns-in-NoRoom : goal.returns-in-NoRoom
-returns-in-NoRoom c = ap (listing_outcome c.before.before.args.events) (sym c.enum_told-1.given.1)
+returns-in-NoRoom c = ap (listing_outcome c.args.events) (sym c.in-NoRoom.is)

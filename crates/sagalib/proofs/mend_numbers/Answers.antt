@@ -5,12 +5,11 @@ use borrow.Author.Rules.{rules}
 use Rattle.sagalib.proofs.mend_numbers.Goals as goal
 
 pub returns-in-Own : goal.returns-in-Own
-returns-in-Own c = ap mend_numbers (sym c.before.mending-1.given.1)
+returns-in-Own c = ap mend_numbers (sym c.in-Own.is)
 
 pub returns-in-Wrote : goal.returns-in-Wrote
-returns-in-Wrote c = ap mend_numbers (sym c.before.mending-in-Wrote-1.given.1)
+returns-in-Wrote c = ap mend_numbers (sym c.in-Wrote.is)
 
 pub returns-in-Refuses : goal.returns-in-Refuses
 returns-in-Refuses c =
-    let v = c.before.before.mending-in-Refuses-1.given in
-    ap (λ (n : ℕ). four n v.0.1.0 v.0.1.1.0 0) c.number-number.ensures ∙ ap mend_numbers (sym v.1)
+    ap (λ (n : ℕ). four n c.in-Refuses.kept c.in-Refuses.place 0) c.number-number.ensures ∙ ap mend_numbers (sym c.in-Refuses.is)

@@ -4,4 +4,4 @@ use borrow.Author.Rules.{rules}
 use Rattle.sagalib.proofs.mended_numbers.Goals as goal
 
 pub returns-in-Wrote : goal.returns-in-Wrote
-returns-in-Wrote c = ap mended_numbers (sym c.before.mending-1.given.1)
+returns-in-Wrote c = ap mended_numbers (sym c.in-Wrote.is)

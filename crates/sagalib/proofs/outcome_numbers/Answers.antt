@@ -5,9 +5,8 @@ use borrow.Author.Rules.{rules}
 use Rattle.sagalib.proofs.outcome_numbers.Goals as goal
 
 pub returns-in-Wrote : goal.returns-in-Wrote
-returns-in-Wrote c = ap (outcome_numbers c.before.before.before.args.events) (sym c.before.outcome-1.given.1)
+returns-in-Wrote c = ap (outcome_numbers c.args.events) (sym c.in-Wrote.is)
 
 pub returns-in-Refuses : goal.returns-in-Refuses
 returns-in-Refuses c =
-    let v = c.before.before.outcome-in-Refuses-1.given in
-    ap (λ (n : ℕ). four n v.0.1.0 v.0.1.1.0 0) c.number-number.ensures ∙ ap (outcome_numbers c.before.before.before.before.args.events) (sym v.1)
+    ap (λ (n : ℕ). four n c.in-Refuses.before c.in-Refuses.place 0) c.number-number.ensures ∙ ap (outcome_numbers c.args.events) (sym c.in-Refuses.is)

@@ -7,9 +7,9 @@ use Rattle.sagalib.proofs.saga_add.Goals as goal
 
 pub returns : goal.returns
 returns c =
-    let book = c.before.before.before.before.before.before.before.args.book.now in
-    let before = c.before.before.before.before.totals_in-before.ensures in
-    let added = c.before.before.before.add-added.ensures in (
-      c.before.number-number.ensures ∙ ap answer_number (added.0 ∙ ap (λ (t : Totals). add_answer t book) before),
+    let book = c.args.book.now in
+    let before = c.totals_in-before.ensures in
+    let added = c.add-added.ensures in (
+      c.number-number.ensures ∙ ap answer_number (added.0 ∙ ap (λ (t : Totals). add_answer t book) before),
       ap totals_numbers (added.1 ∙ ap (λ (t : Totals). added_to t book) before),
     )

@@ -5,4 +5,4 @@ use borrow.Author.Rules.{rules}
 use Rattle.sagalib.proofs.saga_left.Goals as goal
 
 pub returns : goal.returns
-returns c = c.left_of.ensures ∙ ap (λ (r : Judgement). left_in r.tables-1 r.state-1) c.before.before.before.judged-read.ensures
+returns c = c.left_of.ensures ∙ ap (λ (r : Judgement). left_in r.tables r.state) c.judged-read.ensures

@@ -7,8 +7,7 @@ use Rattle.sagalib.proofs.saga_lent_open.Goals as goal
 
 pub returns : goal.returns
 returns c =
-    let a = c.before.before.before.before.before.before.before.before.before.before.before.before.before.args in
-    let o = c.before.before.before.before.before.open_on in
-    let d = desk_of o.new.1.1.0 o.new.1.1.1.0 o.new.1.1.1.1.0 o.new.1.1.1.1.1.0 o.new.1.1.1.1.1.1.0
-    o.new.1.1.1.1.1.1.1.0 in
+    let a = c.args in
+    let o = c.open_on in
+    let d = desk_of o.new.sheet o.new.transactions o.new.ops o.new.records o.new.steps o.new.counts in
     (opened-is (judged a.way a.book.now) d o.ensures a.way a.book.now refl, o.ensures)

@@ -11,11 +11,11 @@ use Rattle.sagalib.proofs.saga_listing.Goals as goal
 
 pub returns : goal.returns
 returns c =
-    let a = c.before.before.before.before.before.before.before.before.before.before.args in
-    let circles = c.before.before.before.before.before.before.before.circles_in-circles in
-    let read = c.before.before.before.before.before.before.judged-read in
-    let put = c.before.before.before.before.put_whole-put in
-    let outcome = c.before.listing_outcome-outcome in
+    let a = c.args in
+    let circles = c.circles_in-circles in
+    let read = c.judged-read in
+    let put = c.put_whole-put in
+    let outcome = c.listing_outcome-outcome in
     let all =
     ap (λ (r : Judgement). listing_of r (listed r circles.result a.book.now)) read.ensures
     ∙ listing-told a.way a.book.now circles.result circles.ensures in (

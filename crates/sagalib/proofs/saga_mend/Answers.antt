@@ -5,7 +5,7 @@ use Rattle.sagalib.proofs.saga_mend.Goals as goal
 
 pub returns : goal.returns
 returns c =
-    let told = c.before.before.before.before.mend-mending.ensures in (
-      c.before.mend_numbers-numbers.ensures ∙ ap mend_numbers told.0,
+    let told = c.mend-mending.ensures in (
+      c.mend_numbers-numbers.ensures ∙ ap mend_numbers told.0,
       (c.mended_numbers-which.ensures ∙ ap mended_numbers told.0, told.1),
     )

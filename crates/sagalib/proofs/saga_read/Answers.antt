@@ -4,5 +4,5 @@ use Rattle.sagalib.proofs.saga_read.Goals as goal
 
 pub returns : goal.returns
 returns c =
-    let read = c.before.before.judged-read in
-    read_is c.before.before.before.before.args.way c.before.before.before.before.args.book.now read.result read.ensures c.before.number-number.result c.before.number-number.ensures
+    let read = c.judged-read in
+    read_is c.args.way c.args.book.now read.result read.ensures c.number-number.result c.number-number.ensures

@@ -9,14 +9,14 @@ use Rattle.sagalib.proofs.saga_refused.Goals as goal
 
 pub returns-then-reads_on : goal.returns-then-reads_on
 returns-then-reads_on c =
-    let a = c.before.before.before.before.before.before.before.before.before.args in
+    let a = c.args in
     let list = a.list.now in
-    let circles = c.before.before.before.before.circles_in-circles in
-    let fill = c.before.before.fill_refused in
-    let all = refused-on a.way a.book.now circles.result circles.ensures (sym c.before.before.before.before.before.before.reads_on.ensures ∙ c.before.before.before.before.before.if-reads_on.true) in
+    let circles = c.circles_in-circles in
+    let fill = c.fill_refused in
+    let all = refused-on a.way a.book.now circles.result circles.ensures (sym c.reads_on.ensures ∙ c.if-reads_on.true) in
     (fill.ensures.0 ∙ ap (λ (l : List No). length (fitting a.skip (length list) l)) all, fill.ensures.1 ∙ ap (λ (l : List No). listed_in list (fitting a.skip (length list) l)) all)
 
 pub returns : goal.returns
 returns c =
-    let a = c.before.before.before.before.args in
-    none_refused a.way a.book.now (sym c.before.reads_on.ensures ∙ c.if-reads_on.false) a.skip a.list.now
+    let a = c.args in
+    none_refused a.way a.book.now (sym c.reads_on.ensures ∙ c.if-reads_on.false) a.skip a.list.now

@@ -7,11 +7,11 @@ use Rattle.sagalib.proofs.saga_replay.Goals as goal
 
 pub returns : goal.returns
 returns c =
-    let a = c.before.before.before.before.before.before.before.before.before.before.before.args in
-    let read = c.before.before.before.before.before.before.before.before.judged-read in
-    let put = c.before.before.before.before.put_order-copied in
-    let outcome = c.before.order_outcome-outcome in (
+    let a = c.args in
+    let read = c.judged-read in
+    let put = c.put_order-copied in
+    let outcome = c.order_outcome-outcome in (
       replay-is a.way a.book.now read.result read.ensures a.list.now put.result put.ensures.0 outcome.result outcome.ensures
           c.outcome_numbers-numbers.result c.outcome_numbers-numbers.ensures,
-      put.ensures.1 ∙ ap (λ (r : Judgement). copy_room (order_of r.state-1.ops-1) a.list.now) read.ensures,
+      put.ensures.1 ∙ ap (λ (r : Judgement). copy_room (order_of r.state.ops) a.list.now) read.ensures,
     )

@@ -5,4 +5,4 @@ use borrow.Author.Rules.{rules}
 use Rattle.sagalib.proofs.saga_share.Goals as goal
 
 pub returns : goal.returns
-returns c = ap share_numbers (c.before.share-lowest.ensures ∙ ap share_of c.before.before.totals_in-counted.ensures)
+returns c = ap share_numbers (c.share-lowest.ensures ∙ ap share_of c.totals_in-counted.ensures)

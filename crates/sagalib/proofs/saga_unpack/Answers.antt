@@ -4,9 +4,9 @@ use Rattle.sagalib.proofs.saga_unpack.Goals as goal
 
 pub returns : goal.returns
 returns c =
-    let a = c.before.before.before.before.before.before.before.before.args in
-    let read = c.before.before.before.before.before.read_to_first_refusal-read in
-    let unpack = c.before.before.before.unpack-outcome in (
+    let a = c.args in
+    let read = c.read_to_first_refusal-read in
+    let unpack = c.unpack-outcome in (
       unpack-is a.book.now read.result read.ensures a.room.now unpack.result unpack.ensures.0 c.outcome_numbers-numbers.result
           c.outcome_numbers-numbers.ensures,
       unpack.ensures.1,

@@ -9,21 +9,21 @@ use Rattle.sheet.proofs.HeldLaws.{DependenciesTo, dependencies-more, SortsKept, 
 use Rattle.sheet.proofs.put_dependencies.Goals as goal
 
 pub loop-i-init : goal.loop-i-init
-loop-i-init c = (omega arith, c.dependency_count-declared.ensures, c.before.requires, λ k l. absurd (omega arith), λ t l. refl)
+loop-i-init c = (omega arith, c.dependency_count-declared.ensures, c.requires, λ k l. absurd (omega arith), λ t l. refl)
 
 pub loop-i-preserved : goal.loop-i-preserved
 loop-i-preserved c =
-    let a = c.before.before.before.before.before.args in
-    let l = c.before.before.before.loop-i in
+    let a = c.args in
+    let l = c.loop-i in
     let x = c.dependency_code.result in (
       omega arith,
       l.invariant.1,
       length-set l.sheet (most_transactions + l.i) x ∙ l.invariant.2,
-      dependencies-more a.t2 l.i l.sheet x l.invariant.3 (omega arith) c.dependency_code.ensures,
+      dependencies-more a.tables l.i l.sheet x l.invariant.3 (omega arith) c.dependency_code.ensures,
       kept_more a.sheet.now l.sheet l.i x l.invariant.4,
     )
 
 pub returns : goal.returns
 returns c =
-    let l = c.before.loop-i in
+    let l = c.loop-i in
     (l.invariant.2, (λ i h. l.invariant.3 i (omega arith), l.invariant.4))

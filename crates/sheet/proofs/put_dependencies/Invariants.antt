@@ -10,7 +10,7 @@ use Rattle.sheet.proofs.put_dependencies.Given as goal
 
 abbrev pub invariant-loop-i : goal.invariant-loop-i
 invariant-loop-i l =
-    (l.i ≤ l.initial.sheet) × (l.initial.sheet ≡ dependency_count l.declared) × (length l.sheet ≡ 195) × DependenciesTo l.declared l.i l.sheet × SortsKept l.tables l.sheet
+    (l.i ≤ l.declared) × (l.declared ≡ dependency_count l.tables) × (length l.sheet ≡ 195) × DependenciesTo l.tables l.i l.sheet × SortsKept l.initial.sheet l.sheet
 
 abbrev pub decreases-loop-i : goal.decreases-loop-i
-decreases-loop-i l = l.initial.sheet - l.i
+decreases-loop-i l = l.declared - l.i

@@ -15,21 +15,21 @@ use Rattle.sheet.proofs.put_sorts.Goals as goal
 
 pub loop-t-init : goal.loop-t-init
 loop-t-init c =
-    let a = c.before.args in
-    (omega arith, omega arith, c.saga_count-sagas.ensures, omega arith, c.before.requires, λ u l. passed_none a.t2 u, λ few k l. absurd (omega arith))
+    let a = c.args in
+    (omega arith, omega arith, c.saga_count-sagas.ensures, omega arith, c.requires, λ u l. passed_none a.tables u, λ few k l. absurd (omega arith))
 
 pub overflow_mul-own : goal.overflow_mul-own
 overflow_mul-own c =
-    let b : Fits w8 (get_or c.before.before.before.before.before.args.t2.steps c.before.before.before.loop-t.i 0) = search rules in
+    let b : Fits w8 (get_or c.args.tables.steps c.loop-t.i 0) = search rules in
     omega arith
 
 pub loop-t-preserved-then-k-own : goal.loop-t-preserved-then-k-own
 loop-t-preserved-then-k-own c =
-    let a = c.before.before.before.before.before.before.before.args in
-    let l = c.before.before.before.before.before.loop-t in
+    let a = c.args in
+    let l = c.loop-t in
     let x = c.place_code.result in
-    let full : length a.t2.steps ≡ most_sagas = search rules in
-    let here = passed_here a.t2 full l.i l.t l.first (l.invariant.5 l.t (omega arith)) (omega arith) (omega arith) in (
+    let full : length a.tables.steps ≡ most_sagas = search rules in
+    let here = passed_here a.tables full l.i l.t l.first (l.invariant.5 l.t (omega arith)) (omega arith) (omega arith) in (
       omega arith,
       omega arith,
       l.invariant.2,
@@ -37,30 +37,30 @@ loop-t-preserved-then-k-own c =
       length-set l.sheet l.t x ∙ l.invariant.4,
       λ u h. l.invariant.5 u (omega arith),
       λ few.
-          sorts-more a.t2 l.t l.sheet x (l.invariant.6 few) (omega arith)
-          (c.place_code.ensures (subst⁻¹ SmallSort here (sort-small a.t2 few l.t)) ∙ here),
+          sorts-more a.tables l.t l.sheet x (l.invariant.6 few) (omega arith)
+          (c.place_code.ensures (subst⁻¹ SmallSort here (sort-small a.tables few l.t)) ∙ here),
     )
 
 pub loop-t-preserved-else-k-own : goal.loop-t-preserved-else-k-own
 loop-t-preserved-else-k-own c =
-    let a = c.before.before.before.before.before.before.args in
-    let l = c.before.before.before.before.loop-t in
-    let full : length a.t2.steps ≡ most_sagas = search rules in (
+    let a = c.args in
+    let l = c.loop-t in
+    let full : length a.tables.steps ≡ most_sagas = search rules in (
       omega arith,
       omega arith,
       l.invariant.2,
       omega arith,
       l.invariant.4,
-      λ u h. passed-more a.t2 full l.i u l.first (l.invariant.5 u h) (omega arith) (omega arith),
+      λ u h. passed-more a.tables full l.i u l.first (l.invariant.5 u h) (omega arith) (omega arith),
       l.invariant.6,
     )
 
 pub loop-t-preserved : goal.loop-t-preserved
 loop-t-preserved c =
-    let a = c.before.before.before.before.before.args in
-    let l = c.before.before.before.loop-t in
+    let a = c.args in
+    let l = c.loop-t in
     let x = c.rest_code.result in
-    let full : length a.t2.steps ≡ most_sagas = search rules in (
+    let full : length a.tables.steps ≡ most_sagas = search rules in (
       omega arith,
       omega arith,
       l.invariant.2,
@@ -68,11 +68,11 @@ loop-t-preserved c =
       length-set l.sheet l.t x ∙ l.invariant.4,
       λ u h. l.invariant.5 u (omega arith),
       λ few.
-          sorts-more a.t2 l.t l.sheet x (l.invariant.6 few) (omega arith)
-          (c.rest_code.ensures ∙ passed-rest a.t2 full l.i l.t l.first (l.invariant.5 l.t (omega arith)) (omega arith) (omega arith)),
+          sorts-more a.tables l.t l.sheet x (l.invariant.6 few) (omega arith)
+          (c.rest_code.ensures ∙ passed-rest a.tables full l.i l.t l.first (l.invariant.5 l.t (omega arith)) (omega arith) (omega arith)),
     )
 
 pub returns : goal.returns
 returns c =
-    let l = c.before.loop-t in
+    let l = c.loop-t in
     (l.invariant.4, λ few t h. l.invariant.6 few t (omega arith))

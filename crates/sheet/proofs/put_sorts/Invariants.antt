@@ -15,9 +15,9 @@ use Rattle.sheet.proofs.put_sorts.Given as goal
 
 abbrev pub invariant-loop-t : goal.invariant-loop-t
 invariant-loop-t l =
-    (l.t ≤ most_transactions) × (l.i ≤ l.plain) × (l.plain ≡ min l.sagas.sagas most_sagas) × (l.first ≤ l.t) × (length l.sheet ≡ 195)
-    × ((u : ℕ) → l.t ≤ u → Passed l.sagas u l.i l.first)
-    × (number_of_all l.sagas ≤ most_transactions → SortsTo l.sagas l.t l.sheet)
+    (l.t ≤ most_transactions) × (l.i ≤ l.sagas) × (l.sagas ≡ min l.tables.sagas most_sagas) × (l.first ≤ l.t) × (length l.sheet ≡ 195)
+    × ((u : ℕ) → l.t ≤ u → Passed l.tables u l.i l.first)
+    × (number_of_all l.tables ≤ most_transactions → SortsTo l.tables l.t l.sheet)
 
 abbrev pub decreases-loop-t : goal.decreases-loop-t
-decreases-loop-t l = (most_transactions - l.t) + (l.plain - l.i)
+decreases-loop-t l = (most_transactions - l.t) + (l.sagas - l.i)

@@ -10,15 +10,14 @@ use Rattle.sheet.proofs.sheet_of.Goals as goal
 
 pub returns : goal.returns
 returns c few =
-    let b = c.before.before.before.before.before in
-    let tables = b.before.before.before.args.tables in
-    let sorts = c.before.before.before.put_sorts in
-    let entries = c.before.put_dependencies in
+    let tables = c.args.tables in
+    let sorts = c.put_sorts in
+    let entries = c.put_dependencies in
     let full : length tables.steps ≡ most_sagas = search rules in
-    counted-holds tables few entries.new.0 entries.ensures.0
-    b.before.before.object_count-objects.result b.before.dependency_count-declared.result b.saga_at-past.result.first
+    counted-holds tables few entries.new.sheet entries.ensures.0
+    c.object_count-objects.result c.dependency_count-declared.result c.saga_at-past.result.first
     (λ t h. ap sort_in (entries.ensures.1.1 t h) ∙ sorts.ensures.1 few t h)
     entries.ensures.1.0
-    b.before.before.object_count-objects.ensures
-    b.before.dependency_count-declared.ensures
-    (ap (λ (s : Saga). s.first) b.saga_at-past.ensures ∙ owned-past tables full)
+    c.object_count-objects.ensures
+    c.dependency_count-declared.ensures
+    (ap (λ (s : Saga). s.first) c.saga_at-past.ensures ∙ owned-past tables full)

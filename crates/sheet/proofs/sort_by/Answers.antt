@@ -3,18 +3,18 @@ use borrow.Author.Tests.{ne_eqb}
 use Rattle.sheet.proofs.sort_by.Goals as goal
 
 pub returns-in-1 : goal.returns-in-1
-returns-in-1 c = rw c.in-1.keys1
+returns-in-1 c = rw c.in-1.is
 
 pub returns-in-2 : goal.returns-in-2
-returns-in-2 c = rw c.in-2.keys2
+returns-in-2 c = rw c.in-2.is
 
 pub returns-in-3 : goal.returns-in-3
-returns-in-3 c = rw c.in-3.keys3
+returns-in-3 c = rw c.in-3.is
 
 pub returns-in-4 : goal.returns-in-4
-returns-in-4 c = rw c.in-4.keys4
+returns-in-4 c = rw c.in-4.is
 
 pub returns-in_default : goal.returns-in_default
 returns-in_default c =
-    let k = c.before.args.k in
+    let k = c.args.k in
     rw (ne_eqb k 1 (omega arith), ne_eqb k 2 (omega arith), ne_eqb k 3 (omega arith), ne_eqb k 4 (omega arith))

@@ -12,7 +12,7 @@ use Rattle.tables.proofs.followed.Given as goal
 
 -- the rows before a have taken in row k
 abbrev pub invariant-loop-a : goal.invariant-loop-a
-invariant-loop-a l = (l.a ≤ most_transactions) × (length l.rows ≡ most_transactions) × Holds l.rows (partly l.through (table_of l.k) l.a)
+invariant-loop-a l = (l.a ≤ most_transactions) × (length l.rows ≡ most_transactions) × Holds l.rows (partly l.k (table_of l.initial.rows) l.a)
 
 abbrev pub decreases-loop-a : goal.decreases-loop-a
 decreases-loop-a l = most_transactions - l.a

@@ -12,4 +12,4 @@ pub returns : goal.returns
 unfolding rises_to
 returns c =
     let a = c.before.before.before.args in
-    c.rises_to.ensures ∙ simp (ne_eqb a.t1.declared 0 c.before.before.if-declared-eq0.false)
+    c.rises_to.ensures ∙ simp (ne_eqb a.tables.declared 0 c.before.before.if-declared-eq0.false)

@@ -1,7 +1,7 @@
 use borrow.Author.Rules.{rules}
 use native.Mathlib.Omega.{arith}
 use mathlib.Core.Path.{◌≡◌, refl, sym, ap, ◌∙◌}
-use Prim.Native.Nat.{◌≤◌, ◌-◌, ◌+◌}
+use Prim.Native.Nat.{ℕ, ◌≤◌, ◌-◌, ◌+◌}
 use native.Mathlib.Nat.{sub-zero}
 use Rattle.terms.specs.Limits.{most_steps, most_transactions}
 use Rattle.terms.specs.declared.Refusal.TheVariants.{BadCount}
@@ -14,18 +14,15 @@ use Rattle.tables.proofs.ReadingLaws.{sagas-none, sagas-end, sagas-stop, sagas-l
 use Rattle.tables.proofs.sagas_from.Goals as goal
 
 -- in a turn, once the field is known to be within its range
-read : (c : goal.In-Value)
-    → number_within c.before.before.before.before.before.before.before.args.most
-    c.before.before.before.before.before.before.before.args.book.now c.before.before.before.before.loop-i.at 1 most_steps BadCount
-    ≡ Value c.before.f-1.given.0.0 c.before.f-1.given.0.1.0
-read c = sym c.before.before.before.within-f.ensures ∙ c.before.f-1.given.1
+read : (c : goal.In-Value) → number_within c.args.most c.args.book.now c.loop-i.at 1 most_steps BadCount ≡ Value c.in-Value.n c.in-Value.next
+read c = sym c.within-f.ensures ∙ c.in-Value.is
 
-range : (c : goal.In-Value) → (1 ≤ c.before.f-1.given.0.0) × (c.before.f-1.given.0.0 ≤ most_steps)
+range : (c : goal.In-Value) → (1 ≤ c.in-Value.n) × (c.in-Value.n ≤ most_steps)
 range c = let r = within-range _ _ _ 1 most_steps BadCount _ _ (read c) in (r.0, r.1)
 
 pub loop-i-init : goal.loop-i-init
 loop-i-init c =
-    let a = c.before.before.args in (
+    let a = c.args in (
       omega arith,
       omega arith,
       ap (λ (t : Tables). t.sagas) c.empty-tables.ensures ∙ sagas-none,
@@ -34,12 +31,10 @@ loop-i-init c =
 
 pub returns-in_default : goal.returns-in_default
 returns-in_default c =
-    let b = c.before.before.before in
-    let l = b.before.before.loop-i in
-    let a = b.before.before.before.before.before.args in
-    let told = c.before.enum_told-1.given in
-    let at_field : number_within a.most a.book.now l.at 1 most_steps BadCount ≡ Fault _ _ = sym b.within-f.ensures ∙ told.1 in
-    (λ i. record { answer = told.1 i; tables = c.empty-none.ensures i })
+    let l = c.loop-i in
+    let a = c.args in
+    let at_field = sym c.within-f.ensures ∙ c.in_default.is in
+    (λ i. record { answer = c.in_default.is i; tables = c.empty-none.ensures i })
     ∙ sym (l.invariant.3 ∙ sagas-stop a.most a.book.now l.at l.sum l.tables (a.count - l.i) (a.count - (l.i + 1)) (omega arith) _ _ at_field)
 
 pub overflow_mul-more : goal.overflow_mul-more
@@ -50,31 +45,31 @@ overflow_add-more c = omega (arith, (range c).1)
 
 pub returns-then-more-gt-TRANSACTIONS : goal.returns-then-more-gt-TRANSACTIONS
 returns-then-more-gt-TRANSACTIONS c =
-    let k = c.before.before in
-    let l = k.before.before.before.before.loop-i in
-    let a = k.before.before.before.before.before.before.before.args in
+    let l = c.loop-i in
+    let a = c.args in
     ap (λ (t : Tables). record { answer = Fault BadCount l.at; tables = t }) c.empty-none-then-more-gt-TRANSACTIONS.ensures
-    ∙ sym (l.invariant.3 ∙ sagas-large a.most a.book.now l.at l.sum l.tables (a.count - l.i) (a.count - (l.i + 1)) (omega arith) _ _ (read k) (omega arith))
+    ∙ sym (l.invariant.3 ∙ sagas-large a.most a.book.now l.at l.sum l.tables (a.count - l.i) (a.count - (l.i + 1)) (omega arith) _ _ (sym c.within-f.ensures ∙ c.in-Value.is) (omega arith))
 
 pub overflow_cast-tables : goal.overflow_cast-tables
-overflow_cast-tables c = omega (arith, (range c.before).1)
+overflow_cast-tables c =
+    let r = within-range _ _ _ 1 most_steps BadCount _ _ (sym c.within-f.ensures ∙ c.in-Value.is) in
+    omega (arith, r.1)
 
 pub bounds-tables-i : goal.bounds-tables-i
 bounds-tables-i c = omega arith
 
 pub loop-i-preserved : goal.loop-i-preserved
 loop-i-preserved c =
-    let k = c.before in
-    let l = k.before.before.before.before.loop-i in
-    let a = k.before.before.before.before.before.before.before.args in (
+    let l = c.loop-i in
+    let a = c.args in (
       omega arith,
       omega arith,
       refl,
-      l.invariant.3 ∙ sagas-more a.most a.book.now l.at l.sum l.tables (a.count - l.i) (a.count - (l.i + 1)) (omega arith) _ _ (read k) l.i l.invariant.2 (omega arith),
+      l.invariant.3 ∙ sagas-more a.most a.book.now l.at l.sum l.tables (a.count - l.i) (a.count - (l.i + 1)) (omega arith) _ _ (sym c.within-f.ensures ∙ c.in-Value.is) l.i l.invariant.2 (omega arith),
     )
 
 pub returns : goal.returns
 returns c =
-    let l = c.before.loop-i in
-    let a = c.before.before.before.before.args in
+    let l = c.loop-i in
+    let a = c.args in
     sym (l.invariant.3 ∙ sagas-end a.most a.book.now l.at l.sum l.tables (a.count - l.i) (omega arith))

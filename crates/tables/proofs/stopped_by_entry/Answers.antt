@@ -1,12 +1,11 @@
 use mathlib.Core.Path.{sym, ap, ◌∙◌}
 use Rattle.tables.specs.Reading.{refused_entry}
-use borrow.Author.Rules.{rules}
 use Rattle.tables.proofs.stopped_by_entry.Goals as goal
 
 pub returns-in-Declares : goal.returns-in-Declares
 unfolding refused_entry
-returns-in-Declares c = c.refused.ensures ∙ sym (ap refused_entry c.before.before.e-1.given.1)
+returns-in-Declares c = c.refused.ensures ∙ sym (ap refused_entry c.in-Declares.is)
 
 pub returns-in-Stops : goal.returns-in-Stops
 unfolding refused_entry
-returns-in-Stops c = c.refused-in-Stops.ensures ∙ sym (ap refused_entry c.before.before.e-in-Stops-1.given.1)
+returns-in-Stops c = c.refused-in-Stops.ensures ∙ sym (ap refused_entry c.in-Stops.is)

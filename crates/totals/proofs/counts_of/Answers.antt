@@ -12,43 +12,43 @@ use Rattle.totals.proofs.counts_of.Goals as goal
 
 -- each count grows by what saga i adds to it
 more-begun : (c : goal.After-one-more_unsettled)
-    → c.before.before.before.before.before.before.before.before.before.before.before.loop-i.begun + c.before.before.before.before.before.before.one-more_begun.result ≡ count_below (c.before.before.before.before.before.before.before.before.before.before.before.loop-i.i + 1) (was_begun c.before.before.before.before.before.before.before.before.before.before.before.before.before.args.tables c.before.before.before.before.before.before.before.before.before.before.before.before.before.args.state)
+    → c.loop-i.begun + c.one-more_begun.result ≡ count_below (c.loop-i.i + 1) (was_begun c.args.tables c.args.state)
 more-begun c =
-    count-more c.before.before.before.before.before.before.before.before.before.before.before.loop-i.i (was_begun c.before.before.before.before.before.before.before.before.before.before.before.before.before.args.tables c.before.before.before.before.before.before.before.before.before.before.before.before.before.args.state) _ _ c.before.before.before.before.before.before.before.before.before.before.before.loop-i.invariant.2
-    (c.before.before.before.before.before.before.one-more_begun.ensures ∙ ap one (c.before.before.before.before.before.before.before.was_begun.ensures ∙ ap begun_by c.before.before.before.before.before.before.before.before.before.saga_phase-phase.ensures))
+    count-more c.loop-i.i (was_begun c.args.tables c.args.state) _ _ c.loop-i.invariant.2
+    (c.one-more_begun.ensures ∙ ap one (c.was_begun.ensures ∙ ap begun_by c.saga_phase-phase.ensures))
 
 more-committed : (c : goal.After-one-more_unsettled)
-    → c.before.before.before.before.before.before.before.before.before.before.before.loop-i.committed + c.before.before.before.before.one-more_committed.result ≡ count_below (c.before.before.before.before.before.before.before.before.before.before.before.loop-i.i + 1) (was_committed c.before.before.before.before.before.before.before.before.before.before.before.before.before.args.tables c.before.before.before.before.before.before.before.before.before.before.before.before.before.args.state)
+    → c.loop-i.committed + c.one-more_committed.result ≡ count_below (c.loop-i.i + 1) (was_committed c.args.tables c.args.state)
 more-committed c =
-    count-more c.before.before.before.before.before.before.before.before.before.before.before.loop-i.i (was_committed c.before.before.before.before.before.before.before.before.before.before.before.before.before.args.tables c.before.before.before.before.before.before.before.before.before.before.before.before.before.args.state) _ _ c.before.before.before.before.before.before.before.before.before.before.before.loop-i.invariant.3
-    (c.before.before.before.before.one-more_committed.ensures ∙ ap one (c.before.before.before.before.before.is_committed.ensures ∙ ap is_committed c.before.before.before.before.before.before.before.before.before.saga_phase-phase.ensures))
+    count-more c.loop-i.i (was_committed c.args.tables c.args.state) _ _ c.loop-i.invariant.3
+    (c.one-more_committed.ensures ∙ ap one (c.is_committed.ensures ∙ ap is_committed c.saga_phase-phase.ensures))
 
 more-backed : (c : goal.After-one-more_unsettled)
-    → c.before.before.before.before.before.before.before.before.before.before.before.loop-i.backed + c.before.before.one-more_backed.result ≡ count_below (c.before.before.before.before.before.before.before.before.before.before.before.loop-i.i + 1) (was_backed_out c.before.before.before.before.before.before.before.before.before.before.before.before.before.args.tables c.before.before.before.before.before.before.before.before.before.before.before.before.before.args.state)
+    → c.loop-i.backed + c.one-more_backed.result ≡ count_below (c.loop-i.i + 1) (was_backed_out c.args.tables c.args.state)
 more-backed c =
-    count-more c.before.before.before.before.before.before.before.before.before.before.before.loop-i.i (was_backed_out c.before.before.before.before.before.before.before.before.before.before.before.before.before.args.tables c.before.before.before.before.before.before.before.before.before.before.before.before.before.args.state) _ _ c.before.before.before.before.before.before.before.before.before.before.before.loop-i.invariant.4
-    (c.before.before.one-more_backed.ensures ∙ ap one (c.before.before.before.was_backed_out.ensures ∙ ap₂ backed_out_by c.before.before.before.before.before.before.before.before.before.saga_phase-phase.ensures c.before.before.before.before.before.before.before.before.settled-settled.ensures))
+    count-more c.loop-i.i (was_backed_out c.args.tables c.args.state) _ _ c.loop-i.invariant.4
+    (c.one-more_backed.ensures ∙ ap one (c.was_backed_out.ensures ∙ ap₂ backed_out_by c.saga_phase-phase.ensures c.settled-settled.ensures))
 
 more-unsettled : (c : goal.After-one-more_unsettled)
-    → c.before.before.before.before.before.before.before.before.before.before.before.loop-i.unsettled + c.one-more_unsettled.result ≡ count_below (c.before.before.before.before.before.before.before.before.before.before.before.loop-i.i + 1) (is_open c.before.before.before.before.before.before.before.before.before.before.before.before.before.args.tables c.before.before.before.before.before.before.before.before.before.before.before.before.before.args.state)
+    → c.loop-i.unsettled + c.one-more_unsettled.result ≡ count_below (c.loop-i.i + 1) (is_open c.args.tables c.args.state)
 more-unsettled c =
-    count-more c.before.before.before.before.before.before.before.before.before.before.before.loop-i.i (is_open c.before.before.before.before.before.before.before.before.before.before.before.before.before.args.tables c.before.before.before.before.before.before.before.before.before.before.before.before.before.args.state) _ _ c.before.before.before.before.before.before.before.before.before.before.before.loop-i.invariant.5
-    (c.one-more_unsettled.ensures ∙ ap one (c.before.is_open.ensures ∙ ap₂ open_by c.before.before.before.before.before.before.before.before.before.saga_phase-phase.ensures c.before.before.before.before.before.before.before.before.settled-settled.ensures))
+    count-more c.loop-i.i (is_open c.args.tables c.args.state) _ _ c.loop-i.invariant.5
+    (c.one-more_unsettled.ensures ∙ ap one (c.is_open.ensures ∙ ap₂ open_by c.saga_phase-phase.ensures c.settled-settled.ensures))
 
 pub loop-i-init : goal.loop-i-init
 loop-i-init c = (omega arith, c.saga_count-sagas.ensures, count_none _, count_none _, count_none _, count_none _)
 
 pub overflow_add-begun : goal.overflow_add-begun
-overflow_add-begun c = omega (arith, more-begun c, count-le (c.before.before.before.before.before.before.before.before.before.before.before.loop-i.i + 1) (was_begun c.before.before.before.before.before.before.before.before.before.before.before.before.before.args.tables c.before.before.before.before.before.before.before.before.before.before.before.before.before.args.state))
+overflow_add-begun c = omega (arith, more-begun c, count-le (c.loop-i.i + 1) (was_begun c.args.tables c.args.state))
 
 pub overflow_add-committed : goal.overflow_add-committed
-overflow_add-committed c = omega (arith, more-committed c, count-le (c.before.before.before.before.before.before.before.before.before.before.before.loop-i.i + 1) (was_committed c.before.before.before.before.before.before.before.before.before.before.before.before.before.args.tables c.before.before.before.before.before.before.before.before.before.before.before.before.before.args.state))
+overflow_add-committed c = omega (arith, more-committed c, count-le (c.loop-i.i + 1) (was_committed c.args.tables c.args.state))
 
 pub overflow_add-backed : goal.overflow_add-backed
-overflow_add-backed c = omega (arith, more-backed c, count-le (c.before.before.before.before.before.before.before.before.before.before.before.loop-i.i + 1) (was_backed_out c.before.before.before.before.before.before.before.before.before.before.before.before.before.args.tables c.before.before.before.before.before.before.before.before.before.before.before.before.before.args.state))
+overflow_add-backed c = omega (arith, more-backed c, count-le (c.loop-i.i + 1) (was_backed_out c.args.tables c.args.state))
 
 pub overflow_add-unsettled : goal.overflow_add-unsettled
-overflow_add-unsettled c = omega (arith, more-unsettled c, count-le (c.before.before.before.before.before.before.before.before.before.before.before.loop-i.i + 1) (is_open c.before.before.before.before.before.before.before.before.before.before.before.before.before.args.tables c.before.before.before.before.before.before.before.before.before.before.before.before.before.args.state))
+overflow_add-unsettled c = omega (arith, more-unsettled c, count-le (c.loop-i.i + 1) (is_open c.args.tables c.args.state))
 
 pub overflow_add-i : goal.overflow_add-i
 overflow_add-i c = omega arith
@@ -57,13 +57,13 @@ pub loop-i-smaller : goal.loop-i-smaller
 loop-i-smaller c = omega arith
 
 pub loop-i-preserved : goal.loop-i-preserved
-loop-i-preserved c = (omega arith, c.before.before.before.before.before.before.before.before.before.before.before.loop-i.invariant.1, more-begun c, more-committed c, more-backed c, more-unsettled c)
+loop-i-preserved c = (omega arith, c.loop-i.invariant.1, more-begun c, more-committed c, more-backed c, more-unsettled c)
 
 pub returns : goal.returns
 unfolding counts_of
 returns c =
-    let a = c.before.before.before.args in
-    let l = c.before.loop-i in
+    let a = c.args in
+    let l = c.loop-i in
     let all : l.i ≡ saga_count a.tables = omega arith in
     let counted : (stands : ℕ → Bool) → count_below l.i stands ≡ count_below (saga_count a.tables) stands = λ stands. ap (λ (n : ℕ). count_below n stands) all in
     λ k.

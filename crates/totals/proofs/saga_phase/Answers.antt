@@ -5,4 +5,4 @@ use borrow.Author.Rules.{rules}
 use Rattle.totals.proofs.saga_phase.Goals as goal
 
 pub returns : goal.returns
-returns c = c.own.ensures ∙ ap (λ (saga : Saga). own c.before.before.before.args.state.transactions-1 saga.first 0) c.before.before.saga_at-saga.ensures
+returns c = c.own.ensures ∙ ap (λ (saga : Saga). own c.args.state.transactions saga.first 0) c.saga_at-saga.ensures

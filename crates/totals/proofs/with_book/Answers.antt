@@ -6,45 +6,34 @@ use Rattle.totals.specs.Figures.{grown, with_book}
 use Rattle.totals.specs.declared.SagaCounts.{SagaCounts}
 use Rattle.totals.proofs.FiguresLaws.{Small, counts-small, one-small}
 use borrow.Author.Rules.{rules}
-use Rattle.totals.proofs.with_book.Lts as lts
-use Rattle.totals.proofs.with_book.Reads as reads
-use Rattle.totals.proofs.with_book.Tie as tie
 use Rattle.totals.proofs.with_book.Goals as goal
 
--- how things stand at places where nothing is asked
-abbrev After-counts_of-counts : Type 0
-After-counts_of-counts = lts.After-counts_of tie.the-claims reads.Pre reads.Post
-
--- what the book adds
-small : (c : After-counts_of-counts) → Small c.counts_of-counts.result
-small c = subst⁻¹ Small c.counts_of-counts.ensures (counts-small _ _)
-
 pub grown-refused-requires : goal.grown-refused-requires
-grown-refused-requires c = omega (arith, c.one.ensures, one-small c.before.is_refused.result)
+grown-refused-requires c = omega (arith, c.one.ensures, one-small c.is_refused.result)
 
 pub grown-begun-requires : goal.grown-begun-requires
-grown-begun-requires c = (small c.before.before.before).begun
+grown-begun-requires c = (subst⁻¹ Small c.counts_of-counts.ensures (counts-small _ _)).begun
 
 pub grown-committed-requires : goal.grown-committed-requires
-grown-committed-requires c = (small c.before.before.before.before).committed
+grown-committed-requires c = (subst⁻¹ Small c.counts_of-counts.ensures (counts-small _ _)).committed
 
 pub grown-backed-requires : goal.grown-backed-requires
-grown-backed-requires c = (small c.before.before.before.before.before).backed
+grown-backed-requires c = (subst⁻¹ Small c.counts_of-counts.ensures (counts-small _ _)).backed
 
 pub grown-unsettled-requires : goal.grown-unsettled-requires
-grown-unsettled-requires c = (small c.before.before.before.before.before.before).unsettled
+grown-unsettled-requires c = (subst⁻¹ Small c.counts_of-counts.ensures (counts-small _ _)).unsettled
 
 pub returns : goal.returns
 unfolding with_book
 returns c =
-    let t = c.before.before.before.before.before.before.before.before.before.before.before.args.totals in
-    let counts = c.before.before.before.before.before.before.before.before.counts_of-counts.ensures in
+    let t = c.args.totals in
+    let counts = c.counts_of-counts.ensures in
     λ k.
     record {
       books = t.books + 1;
-      refused = (c.before.before.before.before.before.grown-refused.ensures ∙ ap (grown t.refused) (c.before.before.before.before.before.before.one.ensures ∙ ap one c.before.before.before.before.before.before.before.is_refused.ensures)) k;
-      begun = (c.before.before.before.before.grown-begun.ensures ∙ ap (λ (n : SagaCounts). grown t.begun n.begun) counts) k;
-      committed = (c.before.before.before.grown-committed.ensures ∙ ap (λ (n : SagaCounts). grown t.committed n.committed) counts) k;
-      backed = (c.before.before.grown-backed.ensures ∙ ap (λ (n : SagaCounts). grown t.backed n.backed) counts) k;
-      unsettled = (c.before.grown-unsettled.ensures ∙ ap (λ (n : SagaCounts). grown t.unsettled n.unsettled) counts) k;
+      refused = (c.grown-refused.ensures ∙ ap (grown t.refused) (c.one.ensures ∙ ap one c.is_refused.ensures)) k;
+      begun = (c.grown-begun.ensures ∙ ap (λ (n : SagaCounts). grown t.begun n.begun) counts) k;
+      committed = (c.grown-committed.ensures ∙ ap (λ (n : SagaCounts). grown t.committed n.committed) counts) k;
+      backed = (c.grown-backed.ensures ∙ ap (λ (n : SagaCounts). grown t.backed n.backed) counts) k;
+      unsettled = (c.grown-unsettled.ensures ∙ ap (λ (n : SagaCounts). grown t.unsettled n.unsettled) counts) k;
     }

@@ -12,27 +12,34 @@ use Rattle.ties.specs.Operations.{op_at}
 use Rattle.ties.proofs.TieLaws.{counts-small}
 use Rattle.ties.proofs.TableLaws.{before_by, into, by-none, by_all, into-none, into-all, into-mark, into-skip}
 use Rattle.ties.proofs.Ops.pairs.Goals as goal
+use Rattle.ties.proofs.Ops.pairs.Goals.{then-counts_with, else-counts_with}
 
 pub loop-j-init : goal.loop-j-init
 loop-j-init c = (omega arith, by-none c.before.args.self)
 
 pub loop-i-init : goal.loop-i-init
-loop-i-init c = (omega arith, c.before.before.before.loop-j.invariant.1 ∙ into-none c.before.before.before.before.before.args.t1 c.before.before.before.loop-j.j)
+loop-i-init c = (omega arith, c.loop-j.invariant.1 ∙ into-none c.args.self c.loop-j.j)
+
+pub bounds-table-a : goal.bounds-table-a
+bounds-table-a c = (counts-small _ _ (sym c.counts_with.ensures ∙ c.if-counts_with.true)).0
+
+pub bounds-table-b : goal.bounds-table-b
+bounds-table-b c = (counts-small _ _ (sym c.counts_with.ensures ∙ c.if-counts_with.true)).1
 
 pub loop-i-preserved : goal.loop-i-preserved
 loop-i-preserved c =
-    let at = c.before.before.before.before in
-    let ops = at.before.before.before.before.before.before.args.self in
-    let j = at.before.before.before.before.loop-j.j in
-    let i = at.loop-i.i in
-    let told = c.before.counts_with.ensures in (
+    let ops = c.args.self in
+    let j = c.loop-j.j in
+    let i = c.loop-i.i in
+    let told = c.counts_with.ensures in (
       omega arith,
-      ⊎_elim
-          (λ w. w.2
-          ∙ ap (λ (l : List (List Bool)). set l (op_at ops i).responsible (set (get_or l (op_at ops i).responsible []) (op_at ops j).responsible true)) at.loop-i.invariant.1
-          ∙ into-mark ops j i (sym told ∙ w.0.taken))
-          (λ w. w.1 ∙ at.loop-i.invariant.1 ∙ into-skip ops j i (sym told ∙ w.0.left))
-          c.if-counts_with.branch,
+      elim c.if-counts_with.branch [
+        | then-counts_with w ↦
+            w.table-is
+            ∙ ap (λ (l : List (List Bool)). set l (op_at ops i).responsible (set (get_or l (op_at ops i).responsible []) (op_at ops j).responsible true)) c.loop-i.invariant.1
+            ∙ into-mark ops j i (sym told ∙ w.if-counts_with.true)
+        | else-counts_with w ↦ w.table-is ∙ c.loop-i.invariant.1 ∙ into-skip ops j i (sym told ∙ w.if-counts_with.false)
+      ],
     )
 
 pub loop-j-preserved : goal.loop-j-preserved

@@ -15,10 +15,10 @@ use Rattle.ties.proofs.Ops.pairs.Given as goal
 
 -- the ties among the first j operations, and of the first i to operation j, are marked
 abbrev pub invariant-loop-i : goal.invariant-loop-i
-invariant-loop-i l = (l.i ≤ l.q) × (l.table ≡ grid most_transactions (into l.self l.q l.i))
+invariant-loop-i l = (l.i ≤ l.j) × (l.table ≡ grid most_transactions (into l.self l.j l.i))
 
 abbrev pub decreases-loop-i : goal.decreases-loop-i
-decreases-loop-i l = l.q - l.i
+decreases-loop-i l = l.j - l.i
 
 -- the ties among the first j operations are marked
 abbrev pub invariant-loop-j : goal.invariant-loop-j
