@@ -7,7 +7,7 @@ use Rattle.tables.specs.Sorts.{first_of, steps_of}
 use Rattle.tables.specs.declared.Kind.{Kind}
 use Rattle.tables.specs.declared.Tables.{Tables}
 use Rattle.histories.specs.Histories.{history}
-use Rattle.closing.specs.Demand.{Beginning, back_run, commits_of, whole_run}
+use Rattle.closing.specs.Demand.{Beginning, back_run as back_commits, commits_of, whole_run as whole_commits}
 use Rattle.acta.specs.Depending.{Declared}
 use Rattle.acta.specs.SagaWords.{SagaRun, Word, back, forth, is_own, own_word}
 use Rattle.acta.specs.Words.{Happens, aborted, aborts, began, begins, committed, commits, in_progress}
@@ -63,7 +63,7 @@ pub record SagaLemmas (f n : ℕ) (h : List Event) : Type 0 where
   -- 001, section 4, and 002, 6.1, "aborts if any T(i) aborts": behind the abort of a step its own do nothing but that S aborts and steps are undone
   pub only_back : (u : List Event) (e : Event) (i : ℕ) → 1 ≤ i → i ≤ n → Happens h u e → aborted u (f + i) ≡ true → is_own f n e ≡ true → (aborts f e || undoes f n e) ≡ true
   -- demand 3: the commits in their order are a beginning of T1, .., T(n), S, or of T1, .., T(j), C(j), .., C1
-  pub order : Beginning (commits_of f n h) (whole_run f n) ⊎ ((j : ℕ) × (j < n) × Beginning (commits_of f n h) (back_run f n j))
+  pub order : Beginning (commits_of f n h) (whole_commits f n) ⊎ ((j : ℕ) × (j < n) × Beginning (commits_of f n h) (back_commits f n j))
 
 -- of any list of events, accepted or not, by its words alone
 abbrev pub SaidByWords : Type 0

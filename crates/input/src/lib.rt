@@ -1,11 +1,18 @@
 // Reading an input so that a read that failed is never taken for its end.
 #![tactic(auto)]
 
+mod reason;
+
 ghost use Rattle.std.specs.Prelude.{◌+◌, ◌<◌, length};
 ghost use Rattle.input.specs.Filling.{Within, Takes, Fits, Moves};
 
+pub use reason::Reason;
+use std::env::{Env, FillError};
+use std::fs::File;
 use std::io;
 use std::io::{ErrorKind, Read};
+use std::process::ExitCode;
+use std::rt::Files;
 
 // What filling a room came to.
 #[derive(Drop)]
@@ -63,5 +70,37 @@ fn read_once<R: Read>(reader: &mut R, part: &mut [u8]) -> Got
             }
             Got::Nothing(reason)
         }
+    }
+}
+
+// Says what was not done, and why, in a line on standard error.
+pub fn fail(rt: &impl Eprint, what: &str, reason: io::Error) {
+    let reason = Reason(reason);
+    let _ = eprintln!(rt; "{what}: {reason}");
+}
+
+// Says that an output was not written whole, and why; the status to end with. Where nobody reads an output any more nothing is said, and the status is
+// that of a program which the system ends for it.
+pub fn not_written(rt: &impl Eprint, what: &str, reason: io::Error) -> ExitCode {
+    if reason.kind() == ErrorKind::BrokenPipe {
+        return ExitCode::from(141);
+    }
+    fail(rt, what, reason);
+    ExitCode::SUCCESS
+}
+
+// Whether the command line has so many words behind the program's name.
+pub fn has_word(rt: &impl Env, i: usize) -> bool {
+    match rt.arg(i, &mut []) {
+        Ok(_) | Err(FillError::TooLong) => true,
+        Err(FillError::NotPresent) => false,
+    }
+}
+
+// Opens the file of this name. Files are opened by names that are text; for another the reason is that its bytes are no letters.
+pub fn open<R: Files>(rt: &R, name: &[u8]) -> io::Result<R::File> {
+    match str::from_utf8(name) {
+        Ok(text) => File::open(rt, text),
+        Err(_) => Err(io::Error::from_raw_os_error(84)),
     }
 }

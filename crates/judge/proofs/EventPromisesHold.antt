@@ -148,8 +148,8 @@ helpers tables s =
           clash (ap is_child e) (off-or (not (is_plain (sort_of tables t))) (is_child (clerk_of tables s.transactions t)) (lines-off tables s (CommitOne t q) v).1.0).1;
     }
 
-judging_order : JudgingOrder
-judging_order = record { numbers = refl; kept = in_order }
+judging-order : JudgingOrder
+judging-order = record { numbers = refl; kept = in_order }
   where
     in_order : (tables : Tables) (s : State) (e : Event) → left_of (refusals_of (lines tables s e)) judging_order ≡ true
     in_order tables s (Begin t) = refl
@@ -171,4 +171,4 @@ one_event tables s e =
     }
 
 pub event-promises : EventPromises
-event-promises = record { one_event = one_event; does = does; helpers = helpers; frame = frame; judging_order = judging_order }
+event-promises = record { one_event = one_event; does = does; helpers = helpers; frame = frame; judging_order = judging-order }

@@ -1,10 +1,14 @@
 // Reads a book from standard input and writes its listing to standard output. The word `permit-circles` reads a book whose tables wait for
 // each other in a circle, too; the word `first-refusal` stops at the first refused event, as it was once; the word `replay` asks for the order to replay the committed
 // changes in. What it could not read, write or understand it says on standard error, and nothing else stands there.
+#![tactic(auto)]
+
 use input::Filled;
-use libc::{STDERR_FILENO, STDIN_FILENO, STDOUT_FILENO};
 use listing::{Listing, Put, Text};
 use onward::Judgement;
+use std::env::{Env, FillError};
+use std::io;
+use std::process::ExitCode;
 use tables::Circles;
 
 // What can be told of a book: its listing, that of a book whose tables may wait in a circle, its listing to the first refusal, or the order to replay in.
@@ -25,94 +29,118 @@ enum Asked {
 
 // What a word asks for.
 fn wish_of(word: &[u8]) -> Asked {
-    if check::same(word, b"permit-circles") {
+    if word == b"permit-circles" {
         return Asked::For(Wish::ListingWithCircles);
     }
-    if check::same(word, b"first-refusal") {
+    if word == b"first-refusal" {
         return Asked::For(Wish::ToFirstRefusal);
     }
-    if check::same(word, b"replay") {
+    if word == b"replay" {
         return Asked::For(Wish::Order);
     }
     Asked::Unknown
 }
 
 // A word that is longer than those that are known is none of them.
-fn asked_for() -> Asked {
-    let words = os::arg_count();
-    if words <= 1 {
-        return Asked::For(Wish::Listing);
-    }
-    if 2 < words {
+fn asked_for(rt: &impl Env) -> Asked {
+    let mut word = [0u8; 14];
+    let n = match rt.arg(1, &mut word) {
+        Ok(n) => n,
+        Err(FillError::NotPresent) => return Asked::For(Wish::Listing),
+        Err(FillError::TooLong) => return Asked::Unknown,
+    };
+    if input::has_word(rt, 2) {
         return Asked::Unknown;
     }
-    let mut word = [0u8; 14];
-    let n = os::arg(1, &mut word);
     wish_of(&word[..n])
 }
 
-// Puts the listing of a book that was judged so into a room and writes it; whether all of it was taken.
-fn print_from(book: &[u8], circles: Circles, judgement: Judgement, room: &mut [u8]) -> bool {
+// What is said of a room that is too small for what is put there; none is.
+fn no_room() -> io::Error {
+    io::Error::other("there is no room for it")
+}
+
+// Puts the listing of a book that was judged so into a room and writes it.
+fn print_from(
+    rt: &impl Print,
+    book: &[u8],
+    circles: Circles,
+    judgement: Judgement,
+    room: &mut [u8],
+) -> io::Result<()> {
     let put = listing::put_whole(judgement, book, circles, room);
     let Put::Wrote(n) = put else {
-        return false;
+        return Err(no_room());
     };
     if room.len() < n {
-        return false;
+        return Err(no_room());
     }
-    io::write_all(STDOUT_FILENO, &room[..n])
+    rt.write_all(&room[..n])
 }
 
-// Writes the listing of a book that was judged so, from a room that holds every listing; whether all of it was taken.
-fn print_listing(book: &[u8], circles: Circles, judgement: Judgement) -> bool {
+// Writes the listing of a book that was judged so, from a room that holds every listing.
+fn print_listing(
+    rt: &impl Print,
+    book: &[u8],
+    circles: Circles,
+    judgement: Judgement,
+) -> io::Result<()> {
     let mut room = [0u8; Listing::MOST];
-    print_from(book, circles, judgement, &mut room)
+    print_from(rt, book, circles, judgement, &mut room)
 }
 
-// Writes a number on a line of its own; whether all of it was taken.
-fn print_number(n: usize) -> bool {
+// Writes a number on a line of its own.
+fn print_number(rt: &impl Print, n: usize) -> io::Result<()> {
     let text = Text::empty().number(n).end();
     let mut room = [0u8; Text::MOST];
     let Put::Wrote(size) = text.put(&mut room) else {
-        return false;
+        return Err(no_room());
     };
-    io::write_all(STDOUT_FILENO, &room[..size])
+    rt.write_all(&room[..size])
 }
 
-// Writes the transactions in the order to replay in, and stops at one that is not taken whole; whether all were.
-fn print_order(judgement: Judgement) -> bool {
+// Writes the transactions in the order to replay in, and stops at one that is not taken whole.
+fn print_order(rt: &impl Print, judgement: Judgement) -> io::Result<()> {
     let state = judgement.state;
     let ops = state.ops;
     let order = replay::order_of(ops);
     let mut i: usize = 0;
     while i < order.count {
         let t = order.numbers[i] as usize;
-        if !print_number(t) {
-            return false;
-        }
+        print_number(rt, t)?;
         i += 1;
     }
-    true
+    Ok(())
 }
 
-fn list(bytes: &[u8], circles: Circles, judgement: Judgement) {
-    if !print_listing(bytes, circles, judgement) {
-        os::fail(b"sagabook: the listing was not written whole");
+fn list(
+    rt: &(impl Print + Eprint),
+    bytes: &[u8],
+    circles: Circles,
+    judgement: Judgement,
+) -> ExitCode {
+    match print_listing(rt, bytes, circles, judgement) {
+        Ok(()) => ExitCode::SUCCESS,
+        Err(reason) => {
+            input::not_written(rt, "sagabook: the listing was not written whole", reason)
+        }
     }
 }
 
-fn list_order(judgement: Judgement) {
-    if !print_order(judgement) {
-        os::fail(b"sagabook: the order was not written whole");
+fn list_order(rt: &(impl Print + Eprint), judgement: Judgement) -> ExitCode {
+    match print_order(rt, judgement) {
+        Ok(()) => ExitCode::SUCCESS,
+        Err(reason) => input::not_written(rt, "sagabook: the order was not written whole", reason),
     }
 }
 
 // Tells of the book in these bytes what is wished.
-fn tell_of(wish: Wish, bytes: &[u8]) {
+fn tell_of(rt: &(impl Print + Eprint), wish: Wish, bytes: &[u8]) -> ExitCode {
     match wish {
-        Wish::Listing => list(bytes, Circles::Forbidden, onward::read(bytes)),
+        Wish::Listing => list(rt, bytes, Circles::Forbidden, onward::read(bytes)),
         Wish::ListingWithCircles => {
             list(
+                rt,
                 bytes,
                 Circles::Permitted,
                 onward::read_permitting_circles(bytes),
@@ -120,35 +148,35 @@ fn tell_of(wish: Wish, bytes: &[u8]) {
         }
         Wish::ToFirstRefusal => {
             list(
+                rt,
                 bytes,
                 Circles::Forbidden,
                 onward::read_to_first_refusal(bytes),
             )
         }
-        Wish::Order => list_order(onward::read(bytes)),
+        Wish::Order => list_order(rt, onward::read(bytes)),
     }
 }
 
 // Reads the book and tells of it; a book that was not read gets no verdict. One byte more than a book may have is enough to know that it is too
 // long.
-fn tell(wish: Wish) {
+fn tell(rt: &(impl Input + Print + Eprint), wish: Wish) -> ExitCode {
     let mut bytes = [0u8; 65537];
-    let filled = input::fill(STDIN_FILENO, &mut bytes);
-    let Filled::Whole(n) = filled else {
-        os::fail(b"sagabook: the book was not read");
-        return;
-    };
-    tell_of(wish, &bytes[..n]);
+    match input::fill(&mut rt.reader(), &mut bytes) {
+        Filled::Whole(n) => tell_of(rt, wish, &bytes[..n]),
+        Filled::Failed(reason) => {
+            input::fail(rt, "sagabook: the book was not read", reason);
+            ExitCode::SUCCESS
+        }
+    }
 }
 
-fn main() {
-    match asked_for() {
-        Asked::For(wish) => tell(wish),
+fn main(rt: HostRuntime) -> ExitCode {
+    match asked_for(&rt) {
+        Asked::For(wish) => tell(&rt, wish),
         Asked::Unknown => {
-            io::write_all(
-                STDERR_FILENO,
-                b"usage: sagabook [permit-circles | first-refusal | replay] < BOOK\n",
-            );
+            let _ = eprintln!(rt; "usage: sagabook [permit-circles | first-refusal | replay] < BOOK");
+            ExitCode::SUCCESS
         }
     }
 }

@@ -2,36 +2,27 @@
 //
 // The text goes to standard output. Of a book that cannot be read to its end, all is shown that can be, and the refusal is said on standard error with its place; what could
 // not be read or written is said there too, and nothing else.
+#![tactic(auto)]
+
 use input::Filled;
-use libc::{STDERR_FILENO, STDIN_FILENO, STDOUT_FILENO};
 use packing::Unpacked;
 use script::Printed;
+use std::io;
+use std::process::ExitCode;
 use terms::{Book, Refusal, Verdict};
 
-// A few words on standard error.
-fn say(words: &[u8]) {
-    io::write_all(STDERR_FILENO, words);
-}
-
-fn say_number(n: usize) {
-    io::print_decimal(STDERR_FILENO, n as u64);
-}
-
-fn say_refused(refusal: Refusal, place: usize) {
-    say(b"showbook: the book cannot be read to its end: refused by ");
-    say_number(refusal.number() as usize);
-    say(b" at byte ");
-    say_number(place);
-    say(b"\n");
+fn say_refused(rt: &impl Eprint, refusal: Refusal, place: usize) {
+    let number = refusal.number();
+    let _ = eprintln!(rt; "showbook: the book cannot be read to its end: refused by {number} at byte {place}");
 }
 
 // Says why a book cannot be read to its end, if it cannot.
-fn say_end(book: &[u8]) {
+fn say_end(rt: &impl Eprint, book: &[u8]) {
     let judgement = onward::read(book);
     let answer = judgement.answer;
     let place = judgement.place;
     if let Verdict::Refused(refusal) = answer {
-        say_refused(refusal, place);
+        say_refused(rt, refusal, place);
     }
 }
 
@@ -57,63 +48,76 @@ fn unpack_before(book: &[u8], place: usize, most: u32, room: &mut [u32]) -> usiz
     }
 }
 
-// Writes the text of the first fields by way of a room; whether all of it was taken.
-fn print_by(fields: &[u32], n: usize, room: &mut [u8]) -> bool {
+// What is said of a room that is too small for what is put there; none is.
+fn no_room() -> io::Error {
+    io::Error::other("there is no room for it")
+}
+
+// Writes the text of the first fields by way of a room.
+fn print_by(rt: &impl Print, fields: &[u32], n: usize, room: &mut [u8]) -> io::Result<()> {
     if fields.len() < n {
-        return false;
+        return Err(no_room());
     }
     let printed = script::show(&fields[..n], room);
     let Printed::Bytes(size) = printed else {
-        return false;
+        return Err(no_room());
     };
     if room.len() < size {
-        return false;
+        return Err(no_room());
     }
-    io::write_all(STDOUT_FILENO, &room[..size])
+    rt.write_all(&room[..size])
 }
 
-// Writes the text of a book by way of two rooms; whether all of it was taken.
-fn print_in(book: &[u8], fields: &mut [u32], room: &mut [u8]) -> bool {
+// Writes the text of a book by way of two rooms.
+fn print_in(
+    rt: &impl Print,
+    book: &[u8],
+    fields: &mut [u32],
+    room: &mut [u8],
+) -> io::Result<()> {
     let edition = tables::edition_of(book);
     let most = edition.most();
     let n = unpack(book, most, fields);
-    print_by(fields, n, room)
+    print_by(rt, fields, n, room)
 }
 
 // A book has no more fields than bytes, and its text has at most eleven bytes for each of them.
-fn print_text(book: &[u8]) -> bool {
+fn print_text(rt: &impl Print, book: &[u8]) -> io::Result<()> {
     let mut fields = [0u32; Book::BYTES];
     let mut room = [0u8; 720896];
-    print_in(book, &mut fields, &mut room)
+    print_in(rt, book, &mut fields, &mut room)
 }
 
-fn show(book: &[u8]) {
+fn show(rt: &(impl Print + Eprint), book: &[u8]) -> ExitCode {
     if Book::BYTES < book.len() {
-        say_refused(Refusal::TooLong, 0);
-        return;
+        say_refused(rt, Refusal::TooLong, 0);
+        return ExitCode::SUCCESS;
     }
-    if !print_text(book) {
-        os::fail(b"showbook: the text was not written whole");
-        return;
+    match print_text(rt, book) {
+        Ok(()) => {
+            say_end(rt, book);
+            ExitCode::SUCCESS
+        }
+        Err(reason) => input::not_written(rt, "showbook: the text was not written whole", reason),
     }
-    say_end(book);
 }
 
 // Reads the book and shows it. One byte more than a book may have is enough to know that it is too long.
-fn show_input() {
+fn show_input(rt: &(impl Input + Print + Eprint)) -> ExitCode {
     let mut bytes = [0u8; 65537];
-    let filled = input::fill(STDIN_FILENO, &mut bytes);
-    let Filled::Whole(n) = filled else {
-        os::fail(b"showbook: the book was not read");
-        return;
-    };
-    show(&bytes[..n]);
+    match input::fill(&mut rt.reader(), &mut bytes) {
+        Filled::Whole(n) => show(rt, &bytes[..n]),
+        Filled::Failed(reason) => {
+            input::fail(rt, "showbook: the book was not read", reason);
+            ExitCode::SUCCESS
+        }
+    }
 }
 
-fn main() {
-    if 1 < os::arg_count() {
-        say(b"usage: showbook < BOOK\n");
-        return;
+fn main(rt: HostRuntime) -> ExitCode {
+    if input::has_word(&rt, 1) {
+        let _ = eprintln!(rt; "usage: showbook < BOOK");
+        return ExitCode::SUCCESS;
     }
-    show_input();
+    show_input(&rt)
 }

@@ -12,6 +12,6 @@ Understood text = (n : ℕ) → told (entries_of text) ≡ NotUnderstood n → �
 
 abbrev pub Tells : List ℕ → Told → Type 0
 Tells text Whole = Understood text
-Tells text NotWritten = Understood text
+Tells text (NotWritten reason) = Understood text
 Tells text (NoSense n) = told (entries_of text) ≡ NotUnderstood n
 Tells text TooLong = text ≡ text

@@ -15,10 +15,10 @@ abbrev After-fate_code-f : Type 0
 After-fate_code-f = lts.After-fate_code tie.the-claims reads.Pre reads.Post
 
 m-small : (c : After-mark_code-m) → c.mark_code-m.result < 2
-m-small c = omega (arith, c.mark_code-m.ensures, mark-small c.before.args.op.mark)
+m-small c = omega (arith, c.mark_code-m.ensures, mark-small c.args.op.mark)
 
 f-small : (c : After-fate_code-f) → c.fate_code-f.result < 3
-f-small c = omega (arith, c.fate_code-f.ensures, fate-small c.before.before.args.op.fate)
+f-small c = omega (arith, c.fate_code-f.ensures, fate-small c.args.op.fate)
 
 pub overflow_mul-result : goal.overflow_mul-result
 overflow_mul-result c = record { fits = omega (arith, m-small c.before.before.before.before, f-small c.before.before.before) }
@@ -40,5 +40,5 @@ overflow_add-result-4 c = record { fits = omega (arith, m-small c.before.before.
 
 pub returns : goal.returns
 returns c =
-    let op = c.before.before.before.before.before.args.op in
-    rw (c.before.before.before.before.mark_code-m.ensures, c.before.before.before.fate_code-f.ensures) (cell-back op c.before.before.before.before.before.requires)
+    let op = c.args.op in
+    rw (c.mark_code-m.ensures, c.fate_code-f.ensures) (cell-back op c.requires)

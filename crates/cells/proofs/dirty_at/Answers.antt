@@ -13,25 +13,25 @@ loop-i-init c = (omega arith, any_none _)
 
 pub returns-then-dirties : goal.returns-then-dirties
 returns-then-dirties c =
-    let a = c.before.before.before.before.before.before.before.before.before.before.args in
-    found-dirty a.ops.now a.t a.j c.before.before.before.before.before.before.before.before.op_in-q.result c.before.before.before.before.before.before.before.before.op_in-q.ensures c.before.before.before.before.before.before.before.read_by_lem.ensures c.before.before.before.before.before.loop-i.i c.before.before.op_in-p.result c.before.before.op_in-p.ensures c.before.dirties.ensures
-    c.before.before.before.before.before.before.if-read_by.true c.if-dirties.true (omega arith)
+    let a = c.args in
+    found-dirty a.ops.now a.t a.j c.op_in-q.result c.op_in-q.ensures c.read_by.ensures c.loop-i.i c.op_in-p.result c.op_in-p.ensures c.dirties.ensures
+    c.if-read_by.true c.if-dirties.true (omega arith)
 
 pub loop-i-preserved : goal.loop-i-preserved
 loop-i-preserved c =
-    let a = c.before.before.before.before.before.before.before.before.before.before.args in
-    let l = c.before.before.before.before.before.loop-i in (
+    let a = c.args in
+    let l = c.loop-i in (
       omega arith,
-      not-dirty a.ops.now a.t a.j c.before.before.before.before.before.before.before.before.op_in-q.result c.before.before.before.before.before.before.before.before.op_in-q.ensures c.before.before.before.before.before.before.before.read_by_lem.ensures l.i c.before.before.op_in-p.result c.before.before.op_in-p.ensures c.before.dirties.ensures
+      not-dirty a.ops.now a.t a.j c.op_in-q.result c.op_in-q.ensures c.read_by.ensures l.i c.op_in-p.result c.op_in-p.ensures c.dirties.ensures
           l.invariant.1 c.if-dirties.false,
     )
 
 pub returns-after-loop-i : goal.returns-after-loop-i
 returns-after-loop-i c =
-    let a = c.before.before.before.before.before.before.args in
-    none-dirty a.ops.now a.t a.j c.before.loop-i.i c.before.loop-i.invariant.1 (omega arith)
+    let a = c.args in
+    none-dirty a.ops.now a.t a.j c.loop-i.i c.loop-i.invariant.1 (omega arith)
 
 pub returns-else-read_by : goal.returns-else-read_by
 returns-else-read_by c =
-    let a = c.before.before.before.before.args in
-    none_read a.ops.now a.t a.j c.before.before.op_in-q.result c.before.before.op_in-q.ensures c.before.read_by_lem.ensures c.if-read_by.false
+    let a = c.args in
+    none_read a.ops.now a.t a.j c.op_in-q.result c.op_in-q.ensures c.read_by.ensures c.if-read_by.false

@@ -6,7 +6,7 @@ use borrow.Author.Rules.{rules}
 use Rattle.cells.proofs.dirty_one.Goals as goal
 
 pub returns-then-q-size : goal.returns-then-q-size
-returns-then-q-size c = let a = c.before.before.before.args in rw (lt-ltb a.q (min a.n most_operations) (omega arith)) (c.dirty_at.ensures a.n)
+returns-then-q-size c = let a = c.args in rw (lt-ltb a.q (min a.n most_operations) (omega arith)) (c.dirty_at.ensures a.n)
 
 pub returns : goal.returns
-returns c = let a = c.before.before.args in rw (le-ltb a.q (min a.n most_operations) (omega arith))
+returns c = let a = c.args in rw (le-ltb a.q (min a.n most_operations) (omega arith))

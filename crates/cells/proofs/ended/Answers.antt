@@ -12,6 +12,6 @@ rewritten-requires c = omega arith
 
 pub returns : goal.returns
 returns c =
-    let a = c.before.before.before.args in
+    let a = c.args in
     c.rewritten.ensures
-    ∙ ap (λ (k : ℕ). rewritten (all_held_by a.t) (ended_as a.fate k) (ops_in a.ops.now a.n)) (c.before.before.size-all.ensures ∙ sym (size_in a.ops.now a.n))
+    ∙ ap (λ (k : ℕ). rewritten (all_held_by a.t) (ended_as a.fate k) (ops_in a.ops.now a.n)) (c.size-all.ensures ∙ sym (size_in a.ops.now a.n))

@@ -3,10 +3,10 @@ use borrow.Author.Tests.{ne_eqb}
 use Rattle.cells.proofs.fate_in.Goals as goal
 
 pub returns-in-1 : goal.returns-in-1
-returns-in-1 c = rw c.in-1.keys1
+returns-in-1 c = rw c.in-1.is
 
 pub returns-in-2 : goal.returns-in-2
-returns-in-2 c = rw c.in-2.keys2
+returns-in-2 c = rw c.in-2.is
 
 pub returns-in_default : goal.returns-in_default
-returns-in_default c = rw (ne_eqb c.before.args.k 1 (omega arith), ne_eqb c.before.args.k 2 (omega arith))
+returns-in_default c = rw (ne_eqb c.args.k 1 (omega arith), ne_eqb c.args.k 2 (omega arith))

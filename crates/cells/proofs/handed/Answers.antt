@@ -8,7 +8,7 @@ pub rewritten-requires : goal.rewritten-requires
 rewritten-requires c = omega arith
 
 pub returns-then-to-lt-TRANSACTIONS : goal.returns-then-to-lt-TRANSACTIONS
-returns-then-to-lt-TRANSACTIONS c = rw (lt-ltb c.before.before.before.args.receiver most_transactions (omega arith)) c.rewritten.ensures
+returns-then-to-lt-TRANSACTIONS c = rw (lt-ltb c.args.receiver most_transactions (omega arith)) c.rewritten.ensures
 
 pub returns-else-to-lt-TRANSACTIONS : goal.returns-else-to-lt-TRANSACTIONS
-returns-else-to-lt-TRANSACTIONS c = rw (le-ltb c.before.args.receiver most_transactions (omega arith))
+returns-else-to-lt-TRANSACTIONS c = rw (le-ltb c.args.receiver most_transactions (omega arith))

@@ -7,18 +7,18 @@ use Rattle.cells.proofs.made.Goals as goal
 
 pub returns-then-not-fits : goal.returns-then-not-fits
 returns-then-not-fits c =
-    let a = c.before.before.args in
-    made-unfit a.ops.now a.n a.op (sym c.before.fits2.ensures ∙ on-not c.before.fits2.result c.if-not-fits.true)
+    let a = c.args in
+    made-unfit a.ops.now a.n a.op (sym c.fits.ensures ∙ c.if-not-fits.true)
 
 pub returns-then-n-ge-MOST : goal.returns-then-n-ge-MOST
 returns-then-n-ge-MOST c =
-    let a = c.before.before.before.args in
-    made_none a.ops.now a.n a.op (sym c.before.before.fits2.ensures ∙ off-not c.before.before.fits2.result c.before.if-not-fits.false) (omega arith)
+    let a = c.args in
+    made_none a.ops.now a.n a.op (sym c.fits.ensures ∙ c.if-not-fits.false) (omega arith)
 
 pub cell_of-requires : goal.cell_of-requires
-cell_of-requires c = sym c.before.before.fits2.ensures ∙ off-not c.before.before.fits2.result c.before.if-not-fits.false
+cell_of-requires c = sym c.fits.ensures ∙ c.if-not-fits.false
 
 pub returns : goal.returns
 returns c =
-    let a = c.before.before.before.before.args in
-    made-stored a.ops.now a.n c.cell_of.result a.op (sym c.before.before.before.fits2.ensures ∙ off-not c.before.before.before.fits2.result c.before.before.if-not-fits.false) c.cell_of.ensures (omega arith)
+    let a = c.args in
+    made-stored a.ops.now a.n c.cell_of.result a.op (sym c.fits.ensures ∙ c.if-not-fits.false) c.cell_of.ensures (omega arith)

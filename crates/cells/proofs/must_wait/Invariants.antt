@@ -13,6 +13,11 @@ use Rattle.cells.specs.Cells.{ops_in}
 use Rattle.cells.proofs.CellLaws.{op-at, size_in}
 use Rattle.cells.proofs.must_wait.Given as goal
 
+-- operation i is one that t has to wait for
+abbrev pub waits : List ℕ → ℕ → ℕ → ℕ → Mark → ℕ → Bool
+waits l n t object mark i = waits_for t object mark (op_at (ops_in l n) i)
+
+-- none of the first i is
 abbrev pub invariant-loop-i : goal.invariant-loop-i
 invariant-loop-i l = (l.i ≤ l.all) × (any_below l.i (waits l.ops l.n l.t l.object l.mark) ≡ false)
 

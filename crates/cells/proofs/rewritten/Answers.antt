@@ -14,8 +14,8 @@ next_held-i-requires c = (omega arith, omega arith)
 
 pub loop-i-init : goal.loop-i-init
 loop-i-init c =
-    let a = c.before.before.before.args in
-    let all = c.before.before.size-all.result in
+    let a = c.args in
+    let all = c.size-all.result in
     let x = c.next_held-i in (
       omega (arith, x.ensures.high),
       omega arith,
@@ -25,10 +25,10 @@ loop-i-init c =
 
 pub cell_of-requires : goal.cell_of-requires
 cell_of-requires c =
-    let l = c.before.before.before.before.loop-i in
+    let l = c.loop-i in
     let cell = get_or l.ops l.i 0 in
-    let s = c.before.before.before.before.before.before.before.before in
-    rw (c.of-after.ensures, c.before.op_in-op.ensures) (becomes-fits s.args.how (op_in cell) s.requires (op_fits cell))
+    let s = c in
+    rw (c.of-after.ensures, c.op_in-op.ensures) (becomes-fits s.args.how (op_in cell) s.requires (op_fits cell))
 
 pub next_held-i-requires-in-loop-i : goal.next_held-i-requires-in-loop-i
 next_held-i-requires-in-loop-i c = (omega arith, omega arith)
@@ -38,14 +38,14 @@ loop-i-smaller c = omega (arith, c.next_held-i-in-loop-i.ensures.low)
 
 pub loop-i-preserved : goal.loop-i-preserved
 loop-i-preserved c =
-    let a = c.before.before.before.before.before.before.before.before.before.before.before.args in
-    let l = c.before.before.before.before.before.before.before.loop-i in
-    let all = c.before.before.before.before.before.before.before.before.before.before.size-all.result in
-    let op = c.before.before.before.before.op_in-op in
-    let cell = c.before.before.cell_of in
+    let a = c.args in
+    let l = c.loop-i in
+    let all = c.size-all.result in
+    let op = c.op_in-op in
+    let cell = c.cell_of in
     let x = c.next_held-i-in-loop-i in
     let held = ap (held_by a.t) op.ensures ∙ l.invariant.3 (omega arith) in
-    let done = done_held a.t (becomes a.how) a.ops.now l.i l.ops l.invariant.2 op.result op.ensures cell.result held (cell.ensures ∙ c.before.before.before.of-after.ensures) in (
+    let done = done_held a.t (becomes a.how) a.ops.now l.i l.ops l.invariant.2 op.result op.ensures cell.result held (cell.ensures ∙ c.of-after.ensures) in (
       omega (arith, x.ensures.high),
       omega arith,
       done_next a.t (becomes a.how) a.ops.now (l.i + 1) all x.result (set l.ops l.i cell.result) done x.ensures,
@@ -54,7 +54,7 @@ loop-i-preserved c =
 
 pub returns : goal.returns
 returns c =
-    let a = c.before.before.before.before.before.args in
-    let l = c.before.loop-i in
-    let all = c.before.before.before.before.size-all in
+    let a = c.args in
+    let l = c.loop-i in
+    let all = c.size-all in
     done_all a.t (becomes a.how) a.ops.now a.n l.i l.ops l.invariant.2 (omega (arith, all.ensures))

@@ -10,7 +10,7 @@ use Rattle.cells.proofs.CellLaws.{op_fits, becomes-fits, Done, done_none, done_h
 use Rattle.cells.proofs.rewritten.Given as goal
 
 abbrev pub invariant-loop-i : goal.invariant-loop-i
-invariant-loop-i l = (l.i ≤ l.initial.ops) × (l.initial.ops ≤ 256) × Done l.how (becomes l.all) l.n l.i l.ops × (l.i < l.initial.ops → held_in l.ops l.how l.i ≡ true)
+invariant-loop-i l = (l.i ≤ l.all) × (l.all ≤ 256) × Done l.t (becomes l.how) l.initial.ops l.i l.ops × (l.i < l.all → held_in l.ops l.t l.i ≡ true)
 
 abbrev pub decreases-loop-i : goal.decreases-loop-i
-decreases-loop-i l = l.initial.ops - l.i
+decreases-loop-i l = l.all - l.i

@@ -11,11 +11,11 @@ use Rattle.judge.proofs.abort_one.Goals as goal
 
 pub returns-in_default : goal.returns-in_default
 returns-in_default c tables h =
-    let a = c.before.before.before.args in
-    shared-refused (single_lines tables (transactions_in a.transactions.now) (ops_in a.ops.now a.n) a.t a.q false) [] (change_of tables (transactions_in a.transactions.now) (AbortOne a.t a.q)) (c.before.before.single-allowed.ensures tables h) _ c.enum_told-in_default-1.given.1
+    let a = c.args in
+    shared-refused (single_lines tables (transactions_in a.transactions.now) (ops_in a.ops.now a.n) a.t a.q false) [] (change_of tables (transactions_in a.transactions.now) (AbortOne a.t a.q)) (c.single-allowed.ensures tables h) c.in_default.field-0 c.in_default.is
 
 pub returns : goal.returns
 returns c tables h =
-    let a = c.before.before.before.before.args in
+    let a = c.args in
     c.accepted.ensures
-    ∙ sym (shared-passed (single_lines tables (transactions_in a.transactions.now) (ops_in a.ops.now a.n) a.t a.q false) [] (change_of tables (transactions_in a.transactions.now) (AbortOne a.t a.q)) (c.before.before.before.single-allowed.ensures tables h) c.before.enum_told-1.given.1)
+    ∙ sym (shared-passed (single_lines tables (transactions_in a.transactions.now) (ops_in a.ops.now a.n) a.t a.q false) [] (change_of tables (transactions_in a.transactions.now) (AbortOne a.t a.q)) (c.single-allowed.ensures tables h) c.in-Accepted.is)

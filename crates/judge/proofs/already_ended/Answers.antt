@@ -8,5 +8,5 @@ use Rattle.judge.proofs.already_ended.Goals as goal
 
 pub returns : goal.returns
 returns c n =
-    let a = c.before.before.before.args in
-    ap not (c.is_active.ensures ∙ ap (λ (op : Operation). is_active op.fate) (c.before.op_in-op.ensures ∙ sym (op-at a.ops.now n a.q)))
+    let a = c.args in
+    ap not (c.is_active.ensures ∙ ap (λ (op : Operation). is_active op.fate) (c.op_in-op.ensures ∙ sym (op-at a.ops.now n a.q)))

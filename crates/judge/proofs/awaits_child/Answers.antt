@@ -9,10 +9,10 @@ use Rattle.judge.proofs.awaits_child.Goals as goal
 
 pub returns-then-not_plain : goal.returns-then-not_plain
 returns-then-not_plain c tables h =
-    let a = c.before.before.args in
-    rw (on-not (is_plain (sort_of tables a.t)) (sym (sorted (λ (x : Sort). not (is_plain x)) a.sheet.now tables h a.t c.before.not_plain.ensures) ∙ c.if-not_plain.true))
+    let a = c.args in
+    rw (on-not (is_plain (sort_of tables a.t)) (sym (sorted (λ (x : Sort). not (is_plain x)) a.sheet.now tables h a.t c.not_plain.ensures) ∙ c.if-not_plain.true))
 
 pub returns : goal.returns
 returns c tables h =
-    let a = c.before.before.before.args in
-    rw (off-not (is_plain (sort_of tables a.t)) (sym (sorted (λ (x : Sort). not (is_plain x)) a.sheet.now tables h a.t c.before.before.not_plain.ensures) ∙ c.before.if-not_plain.false)) c.child_active.ensures
+    let a = c.args in
+    rw (off-not (is_plain (sort_of tables a.t)) (sym (sorted (λ (x : Sort). not (is_plain x)) a.sheet.now tables h a.t c.not_plain.ensures) ∙ c.if-not_plain.false)) c.child_active.ensures

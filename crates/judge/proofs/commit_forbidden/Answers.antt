@@ -5,4 +5,4 @@ use borrow.Author.Rules.{rules}
 use Rattle.judge.proofs.commit_forbidden.Goals as goal
 
 pub returns : goal.returns
-returns c = c.commit_barred.ensures ∙ ap (commit_barred (transactions_in c.before.before.args.transactions.now)) c.before.sort_at-sort.ensures
+returns c = c.commit_barred.ensures ∙ ap (commit_barred (transactions_in c.args.transactions.now)) c.sort_at-sort.ensures

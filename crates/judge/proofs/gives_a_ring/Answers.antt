@@ -10,22 +10,22 @@ use Rattle.judge.proofs.gives_a_ring.Goals as goal
 
 pub returns-then-already_ended : goal.returns-then-already_ended
 returns-then-already_ended c tables h =
-    let a = c.before.before.args in
-    let gone = on-not (is_active (op_at (ops_in a.ops.now a.n) a.q).fate) (sym (c.before.already_ended.ensures a.n) ∙ c.if-already_ended.true) in
+    let a = c.args in
+    let gone = on-not (is_active (op_at (ops_in a.ops.now a.n) a.q).fate) (sym (c.already_ended.ensures a.n) ∙ c.if-already_ended.true) in
     rw gone
 
 pub returns-then-undos-eq0 : goal.returns-then-undos-eq0
 returns-then-undos-eq0 c tables h =
-    let a = c.before.before.before.before.args in
-    let u = c.before.active_undos-undos in
-    let there = off-not (is_active (op_at (ops_in a.ops.now a.n) a.q).fate) (sym (c.before.before.before.already_ended.ensures a.n) ∙ c.before.before.if-already_ended.false) in
+    let a = c.args in
+    let u = c.active_undos-undos in
+    let there = off-not (is_active (op_at (ops_in a.ops.now a.n) a.q).fate) (sym (c.already_ended.ensures a.n) ∙ c.if-already_ended.false) in
     rw there
     (ring-nobody (before_given (ops_in a.ops.now a.n) a.q a.receiver) tables (transactions_in a.transactions.now) u.result a.receiver (u.ensures tables h) c.if-undos-eq0.true)
 
 pub returns : goal.returns
 returns c tables h =
-    let a = c.before.before.before.before.before.args in
-    let u = c.before.before.active_undos-undos in
-    let there = off-not (is_active (op_at (ops_in a.ops.now a.n) a.q).fate) (sym (c.before.before.before.before.already_ended.ensures a.n) ∙ c.before.before.before.if-already_ended.false) in
+    let a = c.args in
+    let u = c.active_undos-undos in
+    let there = off-not (is_active (op_at (ops_in a.ops.now a.n) a.q).fate) (sym (c.already_ended.ensures a.n) ∙ c.if-already_ended.false) in
     rw there
     (c.ring_given.ensures ∙ ring-some (before_given (ops_in a.ops.now a.n) a.q a.receiver) tables (transactions_in a.transactions.now) u.result a.receiver (u.ensures tables h))

@@ -8,12 +8,12 @@ use Rattle.judge.proofs.hands_a_ring.Goals as goal
 
 pub returns-then-undos-eq0 : goal.returns-then-undos-eq0
 returns-then-undos-eq0 c tables h =
-    let a = c.before.before.args in
-    let u = c.before.active_undos-undos in
+    let a = c.args in
+    let u = c.active_undos-undos in
     ring-nobody (before_handed (ops_in a.ops.now a.n) a.t a.m) tables (transactions_in a.transactions.now) u.result a.m (u.ensures tables h) c.if-undos-eq0.true
 
 pub returns : goal.returns
 returns c tables h =
-    let a = c.before.before.before.args in
-    let u = c.before.before.active_undos-undos in
+    let a = c.args in
+    let u = c.active_undos-undos in
     c.ring_handed.ensures ∙ ring-some (before_handed (ops_in a.ops.now a.n) a.t a.m) tables (transactions_in a.transactions.now) u.result a.m (u.ensures tables h)

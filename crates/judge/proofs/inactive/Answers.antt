@@ -5,4 +5,4 @@ use borrow.Author.Rules.{rules}
 use Rattle.judge.proofs.inactive.Goals as goal
 
 pub returns : goal.returns
-returns c = ap not (c.is_active.ensures ∙ ap is_active c.before.phase_at-phase.ensures)
+returns c = ap not (c.is_active.ensures ∙ ap is_active c.phase_at-phase.ensures)

@@ -4,4 +4,4 @@ use borrow.Author.Rules.{rules}
 use Rattle.judge.proofs.is_saga.Goals as goal
 
 pub returns : goal.returns
-returns c = c.is_saga.ensures ∙ ap is_saga c.before.sort_at-sort.ensures
+returns c = c.is_saga.ensures ∙ ap is_saga c.sort_at-sort.ensures

@@ -4,4 +4,4 @@ use borrow.Author.Rules.{rules}
 use Rattle.judge.proofs.is_undo.Goals as goal
 
 pub returns : goal.returns
-returns c = c.is_undo.ensures ∙ ap is_undo c.before.sort_at-sort.ensures
+returns c = c.is_undo.ensures ∙ ap is_undo c.sort_at-sort.ensures

@@ -7,9 +7,9 @@ use Rattle.judge.proofs.must_wait.Goals as goal
 
 pub returns-then-is_undo : goal.returns-then-is_undo
 returns-then-is_undo c =
-    let a = c.before.before.before.args in
+    let a = c.args in
     c.must_wait.ensures
-    ∙ ap (λ (b : Bool). b && must_wait (ops_in a.ops.now a.n) a.t a.object a.mark) (sym c.before.if-is_undo.true ∙ c.before.before.is_undo.ensures)
+    ∙ ap (λ (b : Bool). b && must_wait (ops_in a.ops.now a.n) a.t a.object a.mark) (sym c.if-is_undo.true ∙ c.is_undo.ensures)
 
 pub returns : goal.returns
-returns c = rw (sym c.before.is_undo.ensures ∙ c.if-is_undo.false)
+returns c = rw (sym c.is_undo.ensures ∙ c.if-is_undo.false)

@@ -6,4 +6,4 @@ use Rattle.judge.proofs.no_party.Goals as goal
 
 pub returns : goal.returns
 returns c =
-    ap₂ ◌||◌ (c.before.is_saga.ensures ∙ ap is_saga c.before.before.sort_at-sort.ensures) (c.is_undo.ensures ∙ ap is_undo c.before.before.sort_at-sort.ensures)
+    ap₂ ◌||◌ (c.is_saga.ensures ∙ ap is_saga c.sort_at-sort.ensures) (c.is_undo.ensures ∙ ap is_undo c.sort_at-sort.ensures)

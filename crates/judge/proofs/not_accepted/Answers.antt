@@ -6,4 +6,4 @@ use borrow.Author.Rules.{rules}
 use Rattle.judge.proofs.not_accepted.Goals as goal
 
 pub returns : goal.returns
-returns c = ap (λ (k : ℕ). not (ltb c.before.args.q k)) c.size-all.ensures
+returns c = ap (λ (k : ℕ). not (ltb c.args.q k)) c.size-all.ensures

@@ -5,4 +5,4 @@ use borrow.Author.Rules.{rules}
 use Rattle.judge.proofs.not_idle.Goals as goal
 
 pub returns : goal.returns
-returns c = ap not (c.is_idle.ensures ∙ ap is_idle c.before.phase_at-phase.ensures)
+returns c = ap not (c.is_idle.ensures ∙ ap is_idle c.phase_at-phase.ensures)

@@ -5,4 +5,4 @@ use borrow.Author.Rules.{rules}
 use Rattle.judge.proofs.not_plain.Goals as goal
 
 pub returns : goal.returns
-returns c = ap not (c.is_plain.ensures ∙ ap is_plain c.before.sort_at-sort.ensures)
+returns c = ap not (c.is_plain.ensures ∙ ap is_plain c.sort_at-sort.ensures)

@@ -8,5 +8,5 @@ use Rattle.judge.proofs.not_responsible.Goals as goal
 
 pub returns : goal.returns
 returns c n =
-    let a = c.before.before.before.args in
-    ap (λ (op : Operation). not (eqb op.responsible a.t)) (c.before.op_in-op.ensures ∙ sym (op-at a.ops.now n a.q))
+    let a = c.args in
+    ap (λ (op : Operation). not (eqb op.responsible a.t)) (c.op_in-op.ensures ∙ sym (op-at a.ops.now n a.q))

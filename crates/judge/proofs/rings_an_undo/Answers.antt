@@ -8,12 +8,12 @@ use Rattle.judge.proofs.rings_an_undo.Goals as goal
 
 pub returns-then-undos-eq0 : goal.returns-then-undos-eq0
 returns-then-undos-eq0 c tables h =
-    let a = c.before.before.args in
-    let u = c.before.active_undos-undos in
+    let a = c.args in
+    let u = c.active_undos-undos in
     ring-nobody (before_made (ops_in a.ops.now a.n) a.op) tables (transactions_in a.transactions.now) u.result a.op.responsible (u.ensures tables h) c.if-undos-eq0.true
 
 pub returns : goal.returns
 returns c tables h =
-    let a = c.before.before.before.args in
-    let u = c.before.before.active_undos-undos in
+    let a = c.args in
+    let u = c.active_undos-undos in
     c.ring_made.ensures ∙ ring-some (before_made (ops_in a.ops.now a.n) a.op) tables (transactions_in a.transactions.now) u.result a.op.responsible (u.ensures tables h)

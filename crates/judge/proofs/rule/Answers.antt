@@ -4,4 +4,4 @@ use Rattle.judge.proofs.KnownLaws.{none-ringed}
 use Rattle.judge.proofs.rule.Goals as goal
 
 pub returns : goal.returns
-returns c = λ tables h. c.rule_knowing.ensures tables h (none-ringed (ops_in c.before.args.ops.now c.before.args.n))
+returns c = λ tables h. c.rule_knowing.ensures tables h (none-ringed (ops_in c.args.ops.now c.args.n))

@@ -9,8 +9,8 @@ use Rattle.judge.proofs.take_knowing.Goals as goal
 pub returns : goal.returns
 unfolding judged
 returns c tables h k =
-    let a = c.before.before.before.before.before.before.args in
-    let r = c.before.before.before.rule_knowing-ruled in
+    let a = c.args in
+    let r = c.rule_knowing-ruled in
     let s = state_in a.transactions.now a.ops.now a.n in
     let e = r.ensures tables h k in (
       ap (λ (x : Ruling). x.verdict) e,

@@ -5,4 +5,4 @@ use borrow.Author.Rules.{rules}
 use Rattle.judge.proofs.unknown.Goals as goal
 
 pub returns : goal.returns
-returns c = ap not (c.is_known.ensures ∙ ap is_known c.before.sort_at-sort.ensures)
+returns c = ap not (c.is_known.ensures ∙ ap is_known c.sort_at-sort.ensures)

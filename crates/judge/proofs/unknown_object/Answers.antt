@@ -6,4 +6,4 @@ use borrow.Author.Rules.{rules}
 use Rattle.judge.proofs.unknown_object.Goals as goal
 
 pub returns : goal.returns
-returns c = ap (λ (n : ℕ). not (ltb c.before.before.args.o n)) c.count_in-objects.ensures
+returns c = ap (λ (n : ℕ). not (ltb c.args.o n)) c.count_in-objects.ensures

@@ -6,7 +6,7 @@ use Rattle.judge.specs.Known.{with_committer}
 use Rattle.judge.proofs.with_committer.Goals as goal
 
 pub returns-in-Commit : goal.returns-in-Commit
-returns-in-Commit c = c.with_member.ensures ∙ ap (λ (e : Event). with_committer e c.before.before.before.before.args.set) (sym c.before.before.event-1.given.1)
+returns-in-Commit c = c.with_member.ensures ∙ ap (λ (e : Event). with_committer e c.args.set) (sym c.in-Commit.is)
 
 pub returns-in-CommitOne : goal.returns-in-CommitOne
-returns-in-CommitOne c = c.with_member-in-CommitOne.ensures ∙ ap (λ (e : Event). with_committer e c.before.before.before.before.args.set) (sym c.before.before.event-in-CommitOne-1.given.1)
+returns-in-CommitOne c = c.with_member-in-CommitOne.ensures ∙ ap (λ (e : Event). with_committer e c.args.set) (sym c.in-CommitOne.is)

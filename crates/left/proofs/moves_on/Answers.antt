@@ -5,13 +5,13 @@ use borrow.Author.Rules.{rules}
 use Rattle.left.proofs.moves_on.Goals as goal
 
 pub returns-in-Begin : goal.returns-in-Begin
-returns-in-Begin c = c.sort_at.ensures ∙ ap (moves_by (sort_at c.before.before.before.before.args.sheet.now)) (sym c.before.before.event-1.given.1)
+returns-in-Begin c = c.sort_at.ensures ∙ ap (moves_by (sort_at c.args.sheet.now)) (sym c.in-Begin.is)
 
 pub returns-in-Commit : goal.returns-in-Commit
-returns-in-Commit c = c.sort_at-in-Commit.ensures ∙ ap (moves_by (sort_at c.before.before.before.before.args.sheet.now)) (sym c.before.before.event-in-Commit-1.given.1)
+returns-in-Commit c = c.sort_at-in-Commit.ensures ∙ ap (moves_by (sort_at c.args.sheet.now)) (sym c.in-Commit.is)
 
 pub returns-in-Abort : goal.returns-in-Abort
-returns-in-Abort c = c.sort_at-in-Abort.ensures ∙ ap (moves_by (sort_at c.before.before.before.before.args.sheet.now)) (sym c.before.before.event-in-Abort-1.given.1)
+returns-in-Abort c = c.sort_at-in-Abort.ensures ∙ ap (moves_by (sort_at c.args.sheet.now)) (sym c.in-Abort.is)
 
 pub returns-in-Spawn : goal.returns-in-Spawn
-returns-in-Spawn c = c.sort_at-in-Spawn.ensures ∙ ap (moves_by (sort_at c.before.before.before.before.args.sheet.now)) (sym c.before.before.event-in-Spawn-1.given.1)
+returns-in-Spawn c = c.sort_at-in-Spawn.ensures ∙ ap (moves_by (sort_at c.args.sheet.now)) (sym c.in-Spawn.is)

@@ -21,38 +21,38 @@ After-own_at-phase = lts.After-own_at tie.the-claims reads.Pre reads.Post
 
 -- by the phase of S
 by : (c : After-own_at-phase) (p : Phase) → c.own_at-phase.result ≡ p
-    → outstanding_by p c.before.args.n (own (transactions_in c.before.args.transactions.now) c.before.args.first)
-    ≡ owed_from (transactions_in c.before.args.transactions.now) c.before.args.first c.before.args.n
+    → outstanding_by p c.args.n (own (transactions_in c.args.transactions.now) c.args.first)
+    ≡ owed_from (transactions_in c.args.transactions.now) c.args.first c.args.n
 by c p e =
-    let a = c.before.args in
+    let a = c.args in
     let P = own (transactions_in a.transactions.now) a.first in
     ap (λ (x : Phase). outstanding_by x a.n P) (sym e ∙ c.own_at-phase.ensures)
 
 pub returns-then-is_committed : goal.returns-then-is_committed
 returns-then-is_committed c =
     rw (
-      ← by c.before.before.before.before.before Active c.before.before.before.enum_told-in-Active-1.given.1,
-      told is_committed c.before.is_committed.ensures c.before.before.own_at-last.ensures c.if-is_committed.true,
+      ← by c.before.before.before.before Active c.in-Active.is,
+      told is_committed c.is_committed.ensures c.own_at-last.ensures c.if-is_committed.true,
     )
 
 pub overflow_add-result : goal.overflow_add-result
 overflow_add-result c =
-    let a = c.before.before.before.before.before.before.before.args in
+    let a = c.args in
     omega (arith, to_undo-le a.n (own (transactions_in a.transactions.now) a.first), c.to_undo-rest.ensures)
 
 pub returns-in-Idle : goal.returns-in-Idle
-returns-in-Idle c = by c.before.before Idle c.enum_told-1.given.1
+returns-in-Idle c = by c.before Idle c.in-Idle.is
 
 pub returns-else-is_committed : goal.returns-else-is_committed
 returns-else-is_committed c =
     rw (
-      ← by c.before.before.before.before.before.before Active c.before.before.before.before.enum_told-in-Active-1.given.1,
-      told is_committed c.before.before.is_committed.ensures c.before.before.before.own_at-last.ensures c.before.if-is_committed.false,
+      ← by c.before.before.before.before.before Active c.in-Active.is,
+      told is_committed c.is_committed.ensures c.own_at-last.ensures c.if-is_committed.false,
     )
     (ap (λ (k : ℕ). 1 + k) c.to_undo-rest.ensures)
 
 pub returns-in-Committed : goal.returns-in-Committed
-returns-in-Committed c = by c.before.before Committed c.enum_told-in-Committed-1.given.1
+returns-in-Committed c = by c.before Committed c.in-Committed.is
 
 pub returns-in-Aborted : goal.returns-in-Aborted
-returns-in-Aborted c = c.to_undo.ensures ∙ by c.before.before.before Aborted c.before.enum_told-in-Aborted-1.given.1
+returns-in-Aborted c = c.to_undo.ensures ∙ by c.before.before Aborted c.in-Aborted.is

@@ -11,23 +11,23 @@ use Rattle.listing.proofs.first_line.Goals as goal
 
 pub returns-in-Accepted : goal.returns-in-Accepted
 returns-in-Accepted c =
-    let a = c.before.before.before.before.before.before.before.args in
-    first _ c.before.before.before.before.before.before.empty-text.ensures
-    (then _ _ _ c.before.before.word.ensures
-    (then _ _ _ c.before.number.ensures
+    let a = c.args in
+    first _ c.empty-text.ensures
+    (then _ _ _ c.word.ensures
+    (then _ _ _ c.number.ensures
     c.end.ensures))
-    ∙ ap (λ (x : Verdict). with_all [] (first_line_by x a.events a.place)) (sym c.before.before.before.before.enum_told-1.given.1)
+    ∙ ap (λ (x : Verdict). with_all [] (first_line_by x a.events a.place)) (sym c.in-Accepted.is)
 
 pub returns-in-Refused : goal.returns-in-Refused
 returns-in-Refused c =
-    let a = c.before.before.before.before.before.before.before.before.before.before.before.before.before.args in
-    let number = c.before.before.before.before.before.number-in-Refused.ensures ∙ ap (λ (n : ℕ). with_all (text_of c.before.before.before.before.before.before.word-in-Refused.result) (decimal n)) c.before.before.before.before.before.before.before.before.number-n.ensures in
-    first _ c.before.before.before.before.before.before.before.before.before.before.before.before.empty-text.ensures
-    (then _ _ _ c.before.before.before.before.before.before.word-in-Refused.ensures
+    let a = c.args in
+    let number = c.number-in-Refused.ensures ∙ ap (λ (n : ℕ). with_all (text_of c.word-in-Refused.result) (decimal n)) c.number-n.ensures in
+    first _ c.empty-text.ensures
+    (then _ _ _ c.word-in-Refused.ensures
     (then _ _ _ number
-    (then _ _ _ c.before.before.before.before.blank.ensures
-    (then _ _ _ c.before.before.before.number-in-Refused-2.ensures
-    (then _ _ _ c.before.before.blank-in-Refused.ensures
-    (then _ _ _ c.before.number-in-Refused-3.ensures
+    (then _ _ _ c.blank.ensures
+    (then _ _ _ c.number-in-Refused-2.ensures
+    (then _ _ _ c.blank-in-Refused.ensures
+    (then _ _ _ c.number-in-Refused-3.ensures
     c.end-in-Refused.ensures))))))
-    ∙ ap (λ (x : Verdict). with_all [] (first_line_by x a.events a.place)) (sym c.before.before.before.before.before.before.before.before.before.before.answer-1.given.1)
+    ∙ ap (λ (x : Verdict). with_all [] (first_line_by x a.events a.place)) (sym c.answer-1.given.1)

@@ -11,9 +11,9 @@ use Rattle.listing.proofs.holds.Goals as goal
 
 pub returns-then-room-ge-MOST : goal.returns-then-room-ge-MOST
 returns-then-room-ge-MOST c =
-    let a = c.before.before.args in
+    let a = c.args in
     let short = listed-short a.judgement a.circles a.book.now in
     sym (le-leb (length (listing_of a.judgement (listed a.judgement a.circles a.book.now))) a.room (omega (arith, short)))
 
 pub returns : goal.returns
-returns c = ap (λ (k : ℕ). leb k c.before.before.before.args.room) c.listing_size-size.ensures
+returns c = ap (λ (k : ℕ). leb k c.args.room) c.listing_size-size.ensures

@@ -4,16 +4,12 @@ use Rattle.tables.specs.declared.Circles.{Circles}
 use Rattle.onward.specs.Onward.{judgement_up_to}
 use Rattle.listing.proofs.judged_to_first_refusal.Goals as goal
 
-read-to-first-refusal-permitting-circles-requires :
-    tie.Need-read-to-first-refusal-permitting-circles-requires
-read-to-first-refusal-permitting-circles-requires c κs = search rules
-
 pub returns-in-Forbidden : goal.returns-in-Forbidden
 returns-in-Forbidden c =
-    let a = c.before.before.before.before.args in
-    c.read_to_first_refusal.ensures ∙ ap (λ (x : Circles). judgement_up_to x a.book.now) (sym c.before.enum_told-1.given.1)
+    let a = c.args in
+    c.read_to_first_refusal.ensures ∙ ap (λ (x : Circles). judgement_up_to x a.book.now) (sym c.in-Forbidden.is)
 
 pub returns-in-Permitted : goal.returns-in-Permitted
 returns-in-Permitted c =
-    let a = c.before.before.before.before.args in
-    c.read_to_first_refusal_permitting_circles.ensures ∙ ap (λ (x : Circles). judgement_up_to x a.book.now) (sym c.before.enum_told-in-Permitted-1.given.1)
+    let a = c.args in
+    c.read_to_first_refusal_permitting_circles.ensures ∙ ap (λ (x : Circles). judgement_up_to x a.book.now) (sym c.in-Permitted.is)

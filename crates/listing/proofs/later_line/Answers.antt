@@ -8,22 +8,22 @@ use Rattle.listing.proofs.later_line.Goals as goal
 
 pub returns-then-k-transactions : goal.returns-then-k-transactions
 returns-then-k-transactions c =
-    let a = c.before.before.before.before.before.before.args in
-    let t = c.before.before.transaction_count-transactions in
+    let a = c.args in
+    let t = c.transaction_count-transactions in
     c.transaction_line.ensures ∙ ap (with_all []) (sym (later-transaction a.judgement a.k t.result t.ensures (omega arith)))
 
 pub returns-then-q-operations : goal.returns-then-q-operations
 returns-then-q-operations c =
-    let a = c.before.before.before.before.before.before.before.before.before.before.args in
-    let t = c.before.before.before.before.before.before.transaction_count-transactions in
-    let o = c.before.before.before.before.size-operations in
+    let a = c.args in
+    let t = c.transaction_count-transactions in
+    let o = c.size-operations in
     c.operation_line.ensures
     ∙ ap (with_all []) (sym (later-operation a.judgement a.k t.result t.ensures o.result o.ensures (omega arith) (omega arith)))
 
 pub returns : goal.returns
 returns c =
-    let a = c.before.before.before.before.before.before.before.before.args in
-    let t = c.before.before.before.before.transaction_count-transactions in
-    let o = c.before.before.size-operations in
+    let a = c.args in
+    let t = c.transaction_count-transactions in
+    let o = c.size-operations in
     c.saga_line.ensures
     ∙ ap (with_all []) (sym (later-saga a.judgement a.k t.result t.ensures o.result o.ensures (omega arith) (omega arith)))

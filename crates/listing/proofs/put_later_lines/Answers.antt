@@ -8,49 +8,39 @@ use Rattle.onward.proofs.RoomLaws.{Laying, laying-done, laying-more, laying-next
 use Rattle.onward.specs.Rooms.{Lays}
 use Rattle.listing.specs.Lines.{line_count, line_of, lines_from}
 use Rattle.listing.proofs.StepLaws.{lines_end, lines_step, some-line}
-use Rattle.listing.proofs.put_later_lines.Lts as lts
-use Rattle.listing.proofs.put_later_lines.Reads as reads
-use Rattle.listing.proofs.put_later_lines.Tie as tie
 use Rattle.listing.proofs.put_later_lines.Goals as goal
-
--- how things stand at places where nothing is asked
-abbrev After-line-text : Type 0
-After-line-text = lts.After-line tie.the-claims reads.Pre reads.Post goal.the-invariant-loop-k goal.the-decreases-loop-k
 
 pub loop-k-init : goal.loop-k-init
 loop-k-init c =
-    let a = c.before.before.args in
+    let a = c.args in
     let r = a.judgement in
     (omega arith, omega (arith, c.line_count-lines.ensures, some-line r), c.line_count-lines.ensures, refl, laying-start a.at (lines_from r 1 (line_count r - 1)) a.room.now)
 
--- the next line, and those behind it
-one_more : (c : After-line-text)
-    → let r = c.before.before.before.before.before.args.judgement in
-    let k = c.before.before.loop-k.k in
-    lines_from r k (line_count r - k) ≡ line_of r k ++ lines_from r (k + 1) (line_count r - (k + 1))
-one_more c = let l = c.before.before.loop-k in lines_step _ l.k _ _ (omega (arith, l.invariant.2))
-
 pub put_at-end-requires : goal.put_at-end-requires
 put_at-end-requires c =
-    let l = c.before.before.before.loop-k in
-    let next = laying-next (line_of c.before.before.before.before.before.before.args.judgement l.k) _ (laying-same l.invariant.4 (one_more c.before)) in
-    omega (arith, next, c.before.before.before.before.before.before.requires, ap length c.before.line-text.ensures)
+    let one_more : let r = c.args.judgement in let k = c.loop-k.k in lines_from r k (line_count r - k) ≡ line_of r k ++ lines_from r (k + 1) (line_count r - (k + 1)) =
+        let l = c.loop-k in lines_step _ l.k _ _ (omega (arith, l.invariant.2)) in
+    let l = c.loop-k in
+    let next = laying-next (line_of c.args.judgement l.k) _ (laying-same l.invariant.4 one_more) in
+    omega (arith, next, c.requires, ap length c.line-text.ensures)
 
 pub loop-k-smaller : goal.loop-k-smaller
 loop-k-smaller c = omega arith
 
 pub loop-k-preserved : goal.loop-k-preserved
 loop-k-preserved c =
-    let a = c.before.before.before.before.before.before.before.before.before.args in
-    let l = c.before.before.before.before.before.before.loop-k in
-    let p = c.before.before.put_at-end in
-    let line = subst (λ (t : List ℕ). Lays l.end t l.room p.result p.new.1.1.0) c.before.before.before.before.line-text.ensures p.ensures in (
+    let one_more : let r = c.args.judgement in let k = c.loop-k.k in lines_from r k (line_count r - k) ≡ line_of r k ++ lines_from r (k + 1) (line_count r - (k + 1)) =
+        let l = c.loop-k in lines_step _ l.k _ _ (omega (arith, l.invariant.2)) in
+    let a = c.args in
+    let l = c.loop-k in
+    let p = c.put_at-end in
+    let line = subst (λ (t : List ℕ). Lays l.end t l.room p.result p.new.room) c.line-text.ensures p.ensures in (
       omega arith,
       omega arith,
       l.invariant.2,
-      p.auto.1.1.0 ∙ l.invariant.3,
-      laying-more (line_of a.judgement l.k) _ p.result p.new.1.1.0 (laying-same l.invariant.4 (one_more c.before.before.before.before)) line p.auto.1.1.0,
+      p.auto.room ∙ l.invariant.3,
+      laying-more (line_of a.judgement l.k) _ p.result p.new.room (laying-same l.invariant.4 one_more) line p.auto.room,
     )
 
 pub returns : goal.returns
-returns c = let l = c.before.loop-k in laying-done l.invariant.4 (lines_end c.before.before.before.before.args.judgement l.k _ (omega (arith, l.invariant.2)))
+returns c = let l = c.loop-k in laying-done l.invariant.4 (lines_end c.args.judgement l.k _ (omega (arith, l.invariant.2)))

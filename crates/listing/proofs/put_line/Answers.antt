@@ -10,27 +10,27 @@ use Rattle.listing.proofs.put_line.Goals as goal
 
 pub returns-then-lines-k : goal.returns-then-lines-k
 returns-then-lines-k c =
-    let a = c.before.before.before.args in
-    place_none a.judgement a.k a.room.now (omega (arith, c.before.line_count-lines.ensures, c.if-lines-k.true))
+    let a = c.args in
+    place_none a.judgement a.k a.room.now (omega (arith, c.line_count-lines.ensures, c.if-lines-k.true))
 
 pub returns-in-Wrote : goal.returns-in-Wrote
 returns-in-Wrote c =
-    let a = c.before.before.before.before.before.before.before.before.before.before.before.args in
+    let a = c.args in
     let room = a.room.now in
-    let p = c.before.before.before.before.before.put in
-    let l = c.before.before.before.before.before.before.before.line-text in
-    let there = place-there a.judgement a.k room (omega (arith, c.before.before.before.before.before.before.before.before.before.line_count-lines.ensures, c.before.before.before.before.before.before.before.before.if-lines-k.false)) in (
-      ap placed (sym c.before.n-1.given.1 ∙ p.ensures.0 ∙ ap (λ (x : List ℕ). put_answer x room) l.ensures) ∙ there.0,
+    let p = c.put in
+    let l = c.line-text in
+    let there = place-there a.judgement a.k room (omega (arith, c.line_count-lines.ensures, c.if-lines-k.false)) in (
+      ap placed (sym c.n-1.given.1 ∙ p.ensures.0 ∙ ap (λ (x : List ℕ). put_answer x room) l.ensures) ∙ there.0,
       p.ensures.1 ∙ ap (λ (x : List ℕ). put_room x room) l.ensures ∙ there.1,
     )
 
 pub returns-in-NoRoom : goal.returns-in-NoRoom
 returns-in-NoRoom c =
-    let a = c.before.before.before.before.before.before.before.before.before.before.args in
+    let a = c.args in
     let room = a.room.now in
-    let p = c.before.before.before.before.put in
-    let l = c.before.before.before.before.before.before.line-text in
-    let there = place-there a.judgement a.k room (omega (arith, c.before.before.before.before.before.before.before.before.line_count-lines.ensures, c.before.before.before.before.before.before.before.if-lines-k.false)) in (
-      ap placed (sym c.enum_told-1.given.1 ∙ p.ensures.0 ∙ ap (λ (x : List ℕ). put_answer x room) l.ensures) ∙ there.0,
+    let p = c.put in
+    let l = c.line-text in
+    let there = place-there a.judgement a.k room (omega (arith, c.line_count-lines.ensures, c.if-lines-k.false)) in (
+      ap placed (sym c.in-NoRoom.is ∙ p.ensures.0 ∙ ap (λ (x : List ℕ). put_answer x room) l.ensures) ∙ there.0,
       p.ensures.1 ∙ ap (λ (x : List ℕ). put_room x room) l.ensures ∙ there.1,
     )

@@ -12,10 +12,10 @@ use Rattle.listing.proofs.put_listing.Goals as goal
 
 pub returns : goal.returns
 returns c =
-    let a = c.before.before.before.before.before.before.before.args in
+    let a = c.args in
     let room = a.room.now in
-    let p = c.before.before.put_whole in
+    let p = c.put_whole in
     let all =
-    ap (λ (r : Judgement). listing_of r (listed r a.circles a.book.now)) c.before.before.before.before.read_by_lem.ensures
+    ap (λ (r : Judgement). listing_of r (listed r a.circles a.book.now)) c.read_by_lem.ensures
     ∙ ap (listing_of (judgement_by a.circles (edition_of a.book.now) a.book.now)) (all_listed a.circles (edition_of a.book.now) a.book.now) in
     (p.ensures.0 ∙ ap (λ (l : List ℕ). put_answer l room) all, p.ensures.1 ∙ ap (λ (l : List ℕ). put_room l room) all)

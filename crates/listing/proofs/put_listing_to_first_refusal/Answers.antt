@@ -12,8 +12,8 @@ use Rattle.listing.proofs.put_listing_to_first_refusal.Goals as goal
 pub returns : goal.returns
 unfolding judgement_up_to
 returns c =
-    let a = c.before.before.before.before.before.before.before.args in
+    let a = c.args in
     let room = a.room.now in
-    let p = c.before.before.put_whole in
-    let all = ap (λ (r : Judgement). listing_of r (listed r a.circles a.book.now)) c.before.before.before.before.judged_to_first_refusal-judgement.ensures in
+    let p = c.put_whole in
+    let all = ap (λ (r : Judgement). listing_of r (listed r a.circles a.book.now)) c.judged_to_first_refusal-judgement.ensures in
     (p.ensures.0 ∙ ap (λ (l : List ℕ). put_answer l room) all, p.ensures.1 ∙ ap (λ (l : List ℕ). put_room l room) all)

@@ -21,38 +21,31 @@ use Rattle.onward.specs.declared.No.{No}
 use Rattle.onward.proofs.RoomLaws.{Laying, laying-done, laying-more, laying-next, laying-same, laying-start}
 use Rattle.listing.specs.Lines.{no_line, no_lines}
 use Rattle.listing.proofs.StepLaws.{nos-end, nos-none, nos-step}
-use Rattle.listing.proofs.put_no_lines_from.Lts as lts
-use Rattle.listing.proofs.put_no_lines_from.Reads as reads
-use Rattle.listing.proofs.put_no_lines_from.Tie as tie
 use Rattle.listing.proofs.put_no_lines_from.Goals as goal
 
--- how things stand at places where nothing is asked
-abbrev In-Next : Type 0
-In-Next = lts.After-known_told tie.the-claims reads.Pre reads.Post goal.the-invariant-loop-left goal.the-decreases-loop-left
-
 -- the line of the next refused event, and those behind it
-to-come : (c : In-Next) (tables : Tables) → Holds tables c.before.before.before.before.before.before.before.before.before.sheet_of-sheet.result
-    → let a = c.before.before.before.before.before.before.before.before.before.before.before.before.args in
-    let l = c.before.before.before.before.before.before.before.before.loop-left in
-    let ts = c.before.before.before.next_refused-found.new.1.1.1.0 in
-    let ops = c.before.before.before.next_refused-found.new.1.1.1.1.0 in
-    let after = c.before.found-1.given.0.1.0 in
+to-come : (c : In-Next) (tables : Tables) → Holds tables c.sheet_of-sheet.result
+    → let a = c.args in
+    let l = c.loop-left in
+    let ts = c.next_refused-found.new.transactions in
+    let ops = c.next_refused-found.new.ops in
+    let after = c.found-1.given.0.1.0 in
     length a.book.now ≤ most_bytes
     → Laying a.at (no_lines (take a.count (refused_from tables empty_state 0 (items_after a.edition a.book.now a.start)))) a.room.now l.end
-    (no_line c.before.found-1.given.0.0 ++ no_lines (take (l.left - 1) (refused_after tables a.edition a.book.now (state_in ts ops after.count) after))) l.room
-    × (after.index ≤ after.place) × Ringed (ops_in ops after.count) c.before.found-1.given.0.1.1.0
+    (no_line c.found-1.given.0.0 ++ no_lines (take (l.left - 1) (refused_after tables a.edition a.book.now (state_in ts ops after.count) after))) l.room
+    × (after.index ≤ after.place) × Ringed (ops_in ops after.count) c.found-1.given.0.1.1.0
 to-come c tables h short =
-    let a = c.before.before.before.before.before.before.before.before.before.before.before.before.args in
-    let l = c.before.before.before.before.before.before.before.before.loop-left in
-    let n = c.before.before.before.next_refused-found in
+    let a = c.args in
+    let l = c.loop-left in
+    let n = c.next_refused-found in
     let so = l.invariant.1 tables h short in
-    let next = subst (λ (f : Found). Finds tables a.edition a.book.now (state_in l.transactions l.ops l.cursor.count) l.cursor f n.new.1.1.1.0 n.new.1.1.1.1.0) c.before.found-1.given.1 (n.ensures tables h short so.1 so.2) in
+    let next = subst (λ (f : Found). Finds tables a.edition a.book.now (state_in l.transactions l.ops l.cursor.count) l.cursor f n.new.transactions n.new.ops) c.found-1.given.1 (n.ensures tables h short so.1 so.2) in
     let some : 0 < l.left = omega arith in
     (laying-same so.0 (ap (λ (r : List No). no_lines (take l.left r)) next.0 ∙ nos-step l.left _ _ some), next.1, next.2)
 
 pub loop-left-init : goal.loop-left-init
 loop-left-init c =
-    let a = c.before.before.before.args in (
+    let a = c.args in (
       refl,
       λ tables h short. (
         laying-same (laying-start a.at (no_lines (take a.count (refused_from tables empty_state 0 (items_after a.edition a.book.now a.start)))) a.room.now)
@@ -64,39 +57,38 @@ loop-left-init c =
 
 pub lay_no-end-requires : goal.lay_no-end-requires
 lay_no-end-requires c =
-    let s = c.before.before.before.before.before.before.before.before.before.before.before.before.before in
-    let go = to-come c.before s.args.tables (c.before.before.before.before.before.before.before.before.before.before.sheet_of-sheet.ensures s.requires.0) s.requires.1.0 in
-    let next = laying-next (no_line c.before.before.found-1.given.0.0) _ go.0 in
-    omega (arith, next, s.requires.1.1)
+    let go = to-come c c.args.tables (c.sheet_of-sheet.ensures c.requires.0) c.requires.1.0 in
+    let next = laying-next (no_line c.found-1.given.0.0) _ go.0 in
+    omega (arith, next, c.requires.1.1)
 
 pub loop-left-smaller : goal.loop-left-smaller
 loop-left-smaller c = omega arith
 
 pub loop-left-preserved : goal.loop-left-preserved
 loop-left-preserved c =
-    let l = c.before.before.before.before.before.before.before.before.before.before.before.before.loop-left in
-    let p = c.before.before.lay_no-end in (
-      p.auto.1.1.0 ∙ l.invariant.0,
+    let l = c.loop-left in
+    let p = c.lay_no-end in (
+      p.auto.room ∙ l.invariant.0,
       λ tables h short.
-          let go = to-come c.before.before.before.before tables h short in
-          (laying-more (no_line c.before.before.before.before.before.found-1.given.0.0) _ p.result p.new.1.1.0 go.0 p.ensures p.auto.1.1.0, go.1, go.2),
+          let go = to-come c tables h short in
+          (laying-more (no_line c.found-1.given.0.0) _ p.result p.new.room go.0 p.ensures p.auto.room, go.1, go.2),
     )
 
 pub returns-in-NoMore : goal.returns-in-NoMore
 returns-in-NoMore c =
-    let a = c.before.before.before.before.before.before.before.before.before.before.before.args in
-    let pre = c.before.before.before.before.before.before.before.before.before.before.before.requires in
-    let l = c.before.before.before.before.before.before.before.loop-left in
-    let n = c.before.before.next_refused-found in
-    let h = c.before.before.before.before.before.before.before.before.sheet_of-sheet.ensures pre.0 in
+    let a = c.args in
+    let pre = c.requires in
+    let l = c.loop-left in
+    let n = c.next_refused-found in
+    let h = c.sheet_of-sheet.ensures pre.0 in
     let so = l.invariant.1 a.tables h pre.1.0 in
-    let none = subst (λ (x : Found). Finds a.tables a.edition a.book.now (state_in l.transactions l.ops l.cursor.count) l.cursor x n.new.1.1.1.0 n.new.1.1.1.1.0) c.enum_told-1.given.1 (n.ensures a.tables h pre.1.0 so.1 so.2) in
+    let none = subst (λ (x : Found). Finds a.tables a.edition a.book.now (state_in l.transactions l.ops l.cursor.count) l.cursor x n.new.transactions n.new.ops) c.in-NoMore.is (n.ensures a.tables h pre.1.0 so.1 so.2) in
     laying-done so.0 (nos-none l.left none)
 
 pub returns : goal.returns
 returns c =
-    let a = c.before.before.before.before.before.args in
-    let pre = c.before.before.before.before.before.requires in
-    let l = c.before.loop-left in
-    let so = l.invariant.1 a.tables (c.before.before.sheet_of-sheet.ensures pre.0) pre.1.0 in
+    let a = c.args in
+    let pre = c.requires in
+    let l = c.loop-left in
+    let so = l.invariant.1 a.tables (c.sheet_of-sheet.ensures pre.0) pre.1.0 in
     laying-done so.0 (nos-end l.left _ (omega arith))

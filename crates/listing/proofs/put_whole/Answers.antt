@@ -10,16 +10,16 @@ use Rattle.listing.proofs.put_whole.Goals as goal
 
 pub returns-then-not-holds : goal.returns-then-not-holds
 returns-then-not-holds c =
-    let a = c.before.before.before.before.args in
+    let a = c.args in
     let room = a.room.now in
     let all = listing_of a.judgement (listed a.judgement a.circles a.book.now) in
-    put_small all room (leb-false (length all) (length room) (sym c.before.holds.ensures ∙ not-true c.before.holds.result c.if-not-holds.true))
+    put_small all room (leb-false (length all) (length room) (sym c.holds.ensures ∙ not-true c.holds.result c.if-not-holds.true))
 
 pub returns : goal.returns
 returns c =
-    let a = c.before.before.before.before.before.before.before.before.args in
+    let a = c.args in
     let room = a.room.now in
-    let p = c.before.before.put_lines-size in
+    let p = c.put_lines-size in
     let all = listing_of a.judgement (listed a.judgement a.circles a.book.now) in
-    let fits = leb-true (length all) (length room) (sym c.before.before.before.before.before.holds.ensures ∙ not-false c.before.before.before.before.before.holds.result c.before.before.before.before.if-not-holds.false) in
-    laid-put all room p.result p.result p.new.1.1.1.0 p.ensures.0 (omega (arith, fits, p.ensures.0)) p.ensures
+    let fits = leb-true (length all) (length room) (sym c.holds.ensures ∙ not-false c.holds.result c.if-not-holds.false) in
+    laid-put all room p.result p.result p.new.room p.ensures.0 (omega (arith, fits, p.ensures.0)) p.ensures

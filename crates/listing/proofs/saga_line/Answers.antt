@@ -10,13 +10,13 @@ use Rattle.listing.proofs.saga_line.Goals as goal
 
 pub returns : goal.returns
 returns c =
-    let owed = c.before.before.before.number-2.ensures ∙ ap (λ (n : ℕ). with_all (text_of c.before.before.before.before.blank.result) (decimal n)) c.before.before.before.before.before.before.before.before.before.before.outstanding-owed.ensures in
-    let step = c.before.step.ensures ∙ ap (λ (x : NextStep). with_all (text_of c.before.before.blank-2.result) (step_words x)) c.before.before.before.before.before.before.before.before.before.closing-step.ensures in
-    first _ c.before.before.before.before.before.before.before.before.empty.ensures
-    (then _ _ _ c.before.before.before.before.before.before.word.ensures
-    (then _ _ _ c.before.before.before.before.before.number.ensures
-    (then _ _ _ c.before.before.before.before.blank.ensures
+    let owed = c.number-2.ensures ∙ ap (λ (n : ℕ). with_all (text_of c.blank.result) (decimal n)) c.outstanding-owed.ensures in
+    let step = c.step.ensures ∙ ap (λ (x : NextStep). with_all (text_of c.blank-2.result) (step_words x)) c.closing-step.ensures in
+    first _ c.empty.ensures
+    (then _ _ _ c.word.ensures
+    (then _ _ _ c.number.ensures
+    (then _ _ _ c.blank.ensures
     (then _ _ _ owed
-    (then _ _ _ c.before.before.blank-2.ensures
+    (then _ _ _ c.blank-2.ensures
     (then _ _ _ step
     c.end.ensures))))))

@@ -8,10 +8,10 @@ use Rattle.listing.proofs.transaction_line.Goals as goal
 
 pub returns : goal.returns
 returns c =
-    let phase = c.before.phase.ensures ∙ ap (λ (x : Phase). with_all (text_of c.before.before.blank.result) (phase_word x)) c.before.before.before.before.before.before.before.phase_of-phase.ensures in
-    first _ c.before.before.before.before.before.before.empty.ensures
-    (then _ _ _ c.before.before.before.before.word.ensures
-    (then _ _ _ c.before.before.before.number.ensures
-    (then _ _ _ c.before.before.blank.ensures
+    let phase = c.phase.ensures ∙ ap (λ (x : Phase). with_all (text_of c.blank.result) (phase_word x)) c.phase_of-phase.ensures in
+    first _ c.empty.ensures
+    (then _ _ _ c.word.ensures
+    (then _ _ _ c.number.ensures
+    (then _ _ _ c.blank.ensures
     (then _ _ _ phase
     c.end.ensures))))

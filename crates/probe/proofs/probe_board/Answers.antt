@@ -10,9 +10,9 @@ use Rattle.probe.proofs.probe_board.Goals as goal
 
 pub returns : goal.returns
 returns c tables h =
-    let a = c.before.before.before.before.before.before.before.before.args in
-    let t = c.before.before.take-shown.ensures tables h in
-    let e = c.before.before.before.before.before.before.before.event_by-event.ensures in
+    let a = c.args in
+    let t = c.take-shown.ensures tables h in
+    let e = c.event_by-event.ensures in
     let s = state_in a.transactions.now a.ops.now (get_or a.board.now 0 0) in (
       c.number.ensures ∙ ap verdict_number (t.0 ∙ ap (λ (x : Event). (judged tables s x).verdict) e),
       (t.1.0 ∙ ap (λ (x : Event). (judged tables s x).state) e, t.1.1 ∙ ap (left_then tables s (get_or a.board.now 1 0)) e),

@@ -8,7 +8,7 @@ use Rattle.probe.proofs.probe_take.Goals as goal
 
 pub returns : goal.returns
 returns c tables h =
-    let a = c.before.before.before.before.before.args in
+    let a = c.args in
     c.number.ensures
-    ∙ ap verdict_number ((c.before.take-taken.ensures tables h).0
-    ∙ ap (λ (e : Event). (judged tables (state_in a.transactions.now a.ops.now a.n) e).verdict) c.before.before.before.before.event_by-event.ensures)
+    ∙ ap verdict_number ((c.take-taken.ensures tables h).0
+    ∙ ap (λ (e : Event). (judged tables (state_in a.transactions.now a.ops.now a.n) e).verdict) c.event_by-event.ensures)

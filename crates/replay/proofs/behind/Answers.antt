@@ -2,9 +2,9 @@ use borrow.Author.Rules.{rules}
 use native.Mathlib.Omega.{arith}
 use Prim.Native.Nat.{ℕ, ◌+◌, ◌-◌, ◌≤◌}
 use mathlib.Core.Path.{◌≡◌, sym, ◌∙◌, subst, subst⁻¹}
-use mathlib.Core.Logic.{⊎_elim}
 use Rattle.replay.proofs.CodeLaws.{BehindOf, behind-none, behind-in, behind-out}
 use Rattle.replay.proofs.behind.Goals as goal
+use Rattle.replay.proofs.behind.Goals.{then-member, else-member}
 
 pub loop-a-init : goal.loop-a-init
 loop-a-init c = (omega arith, behind-none c.args.rows.now c.args.some)
@@ -18,10 +18,7 @@ loop-a-preserved c =
     let l = c.before.before.before.loop-a in
     let test = c.before.member.ensures in (
       omega arith,
-      ⊎_elim
-          (λ w. subst⁻¹ (BehindOf a.rows.now a.some (l.a + 1)) w.2 (behind-in a.rows.now a.some l.a l.set l.invariant.1 (sym test ∙ w.0.taken)))
-          (λ w. subst⁻¹ (BehindOf a.rows.now a.some (l.a + 1)) w.1 (behind-out a.rows.now a.some l.a l.set l.invariant.1 (sym test ∙ w.0.left)))
-          c.if-member.branch,
+      elim c.if-member.branch [ then-member w ↦ subst⁻¹ (BehindOf a.rows.now a.some (l.a + 1)) w.set-is (behind-in a.rows.now a.some l.a l.set l.invariant.1 (sym test ∙ w.if-member.true)) | else-member w ↦ subst⁻¹ (BehindOf a.rows.now a.some (l.a + 1)) w.set-is (behind-out a.rows.now a.some l.a l.set l.invariant.1 (sym test ∙ w.if-member.false)) ],
     )
 
 pub returns : goal.returns

@@ -13,7 +13,7 @@ loop-i-init c = (omega arith, refl, refl)
 pub loop-i-preserved : goal.loop-i-preserved
 loop-i-preserved c =
     let l = c.before.before.loop-i in
-    let numbers = c.before.before.before.args.t1.numbers in
+    let numbers = c.before.before.before.args.order.numbers in
     let room = c.before.before.before.args.room.now in
     let e : length numbers ≡ 64 = search rules in (
       omega arith,
@@ -25,4 +25,4 @@ pub returns : goal.returns
 returns c =
     let a = c.before.before.args in
     let e : c.before.loop-i.i ≡ a.n = omega arith in
-    c.before.loop-i.invariant.1 ∙ ap (λ (n : ℕ). take n a.t1.numbers ++ drop n a.room.now) e
+    c.before.loop-i.invariant.1 ∙ ap (λ (n : ℕ). take n a.order.numbers ++ drop n a.room.now) e

@@ -4,21 +4,21 @@ use Prim.Native.Nat.{ℕ, ◌+◌, ◌-◌, ◌≤◌}
 use mathlib.Core.Path.{◌≡◌, sym, ap, ◌∙◌, subst, subst⁻¹}
 use mathlib.Core.Bool.{Bool, ◌&&◌}
 use lib.Dec.{eqb}
-use mathlib.Core.Logic.{⊎_elim}
 use Rattle.ties.specs.Operations.{op_at, size}
 use Rattle.replay.specs.Replay.{kept_by, holds}
 use Rattle.replay.proofs.CodeLaws.{HoldersOf, holders-none, holders-in, holders-out}
 use Rattle.replay.proofs.holders.Goals as goal
+use Rattle.replay.proofs.holders.Goals.{then-is_kept, else-is_kept}
 
 pub loop-i-init : goal.loop-i-init
-loop-i-init c = (omega arith, c.size-total.ensures, holders-none c.before.args.t1)
+loop-i-init c = (omega arith, c.size-total.ensures, holders-none c.before.args.ops)
 
 pub loop-i-smaller : goal.loop-i-smaller
 loop-i-smaller c = omega arith
 
 pub loop-i-preserved : goal.loop-i-preserved
 loop-i-preserved c =
-    let ops = c.before.before.before.before.before.before.args.t1 in
+    let ops = c.before.before.before.before.before.before.args.ops in
     let l = c.before.before.before.before.loop-i in
     let b = c.before.is_kept.result in
     let test : (t : ℕ) → kept_by t (op_at ops l.i) ≡ (b && eqb (op_at ops l.i).responsible t) =
@@ -26,16 +26,13 @@ loop-i-preserved c =
     in (
       omega arith,
       l.invariant.1,
-      ⊎_elim
-          (λ w. subst⁻¹ (HoldersOf ops (l.i + 1)) (w.3 ∙ w.2.ensures) (holders-in ops l.i l.set l.invariant.2 b test w.0.taken))
-          (λ w. subst⁻¹ (HoldersOf ops (l.i + 1)) w.1 (holders-out ops l.i l.set l.invariant.2 b test w.0.left))
-          c.if-is_kept.branch,
+      elim c.if-is_kept.branch [ then-is_kept w ↦ subst⁻¹ (HoldersOf ops (l.i + 1)) (w.set-is ∙ w.with_member-set.ensures) (holders-in ops l.i l.set l.invariant.2 b test w.if-is_kept.true) | else-is_kept w ↦ subst⁻¹ (HoldersOf ops (l.i + 1)) w.set-is (holders-out ops l.i l.set l.invariant.2 b test w.if-is_kept.false) ],
     )
 
 pub returns : goal.returns
 unfolding holds
 returns c =
-    let ops = c.before.before.before.args.t1 in
+    let ops = c.before.before.before.args.ops in
     let l = c.before.loop-i in
     let all : l.i ≡ size ops = omega arith in
     subst (λ (i : ℕ). HoldersOf ops i l.set) all l.invariant.2

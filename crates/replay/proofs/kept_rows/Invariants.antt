@@ -11,6 +11,9 @@ use Rattle.rows.proofs.SweepLaws.{swept_none, swept_all}
 use Rattle.replay.specs.Replay.{kept, comes_before}
 use Rattle.replay.proofs.kept_rows.Given as goal
 
+abbrev pub kept_at : Ops → ℕ → Operation
+kept_at ops q = kept (op_at ops q)
+
 abbrev pub invariant-loop-i : goal.invariant-loop-i
 invariant-loop-i l = (l.i ≤ size l.ops) × Swept (size l.ops) (kept_at l.ops) l.i l.users l.writers l.rows
 

@@ -1,13 +1,13 @@
 use borrow.Author.Rules.{rules}
 use native.Mathlib.Omega.{arith}
 use mathlib.Core.Path.{◌≡◌, sym, ap, ◌∙◌}
-use mathlib.Core.Logic.{⊎_elim}
 use Prim.Native.Nat.{ℕ, ◌-◌, ◌≤◌}
 use Rattle.terms.specs.Limits.{most_transactions}
 use Rattle.sets.specs.Sets.{set_of}
 use Rattle.sets.proofs.SetLaws.{set-of-none, set-of-in, set-of-out}
 use Rattle.report.specs.Report.{active_in, active_set}
 use Rattle.report.proofs.active_set.Goals as goal
+use Rattle.report.proofs.active_set.Goals.{then-is_active, else-is_active}
 
 pub loop-t-init : goal.loop-t-init
 loop-t-init c = (omega arith, sym (set-of-none _))
@@ -17,14 +17,11 @@ loop-t-smaller c = omega arith
 
 pub loop-t-preserved : goal.loop-t-preserved
 loop-t-preserved c =
-    let ts = c.before.before.before.before.before.args.t1 in
+    let ts = c.before.before.before.before.before.args.transactions in
     let l = c.before.before.before.before.loop-t in
     let test = c.before.is_active.ensures in (
       omega arith,
-      ⊎_elim
-          (λ w. w.2 ∙ w.1.ensures ∙ set-of-in (active_in ts) l.t l.set l.invariant.1 (sym test ∙ w.0.taken))
-          (λ w. w.1 ∙ set-of-out (active_in ts) l.t l.set l.invariant.1 (sym test ∙ w.0.left))
-          c.if-is_active.branch,
+      elim c.if-is_active.branch [ then-is_active w ↦ w.set-is ∙ w.with_member-set.ensures ∙ set-of-in (active_in ts) l.t l.set l.invariant.1 (sym test ∙ w.if-is_active.true) | else-is_active w ↦ w.set-is ∙ set-of-out (active_in ts) l.t l.set l.invariant.1 (sym test ∙ w.if-is_active.false) ],
     )
 
 pub returns : goal.returns
@@ -32,4 +29,4 @@ unfolding active_set
 returns c =
     let l = c.before.loop-t in
     let all : l.t ≡ most_transactions = omega arith in
-    l.invariant.1 ∙ ap (λ (n : ℕ). set_of n (active_in c.before.before.args.t1)) all
+    l.invariant.1 ∙ ap (λ (n : ℕ). set_of n (active_in c.before.before.args.transactions)) all

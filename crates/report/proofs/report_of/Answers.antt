@@ -11,12 +11,12 @@ use Rattle.report.proofs.report_of.Goals as goal
 pub returns : goal.returns
 unfolding report_of active_set
 returns c =
-    let ts = c.before.before.before.before.before.before.args.state.transactions-1 in
-    let set = c.before.before.before.active_set-set in
-    let many : c.before.how_many-many.result ≡ count_below most_transactions (active_in ts) =
-    c.before.how_many-many.ensures ∙ ap (λ (x : ℕ). count_below most_transactions (mem x)) set.ensures ∙ count-members (active_in ts)
+    let ts = c.args.state.transactions in
+    let set = c.active_set-set in
+    let many : c.how_many-many.result ≡ count_below most_transactions (active_in ts) =
+    c.how_many-many.ensures ∙ ap (λ (x : ℕ). count_below most_transactions (mem x)) set.ensures ∙ count-members (active_in ts)
     in
     let low : c.lowest-low.result ≡ first_below most_transactions (active_in ts) =
     c.lowest-low.ensures ∙ ap (λ (x : ℕ). first_below most_transactions (mem x)) set.ensures ∙ first_member (active_in ts)
     in
-    λ i. record { active = many i; lowest = low i; before = c.before.before.standing-before.ensures i }
+    λ i. record { active = many i; lowest = low i; before = c.standing-before.ensures i }

@@ -1,7 +1,6 @@
 use borrow.Author.Rules.{rules}
 use native.Mathlib.Omega.{arith}
 use mathlib.Core.Path.{◌≡◌, sym, ap, ap₂, ◌∙◌}
-use mathlib.Core.Logic.{⊎_elim}
 use mathlib.Core.Bool.{Bool, false}
 use mathlib.Core.List.{List}
 use lib.ListN.{get_or, set}
@@ -14,6 +13,7 @@ use Rattle.sets.proofs.SetLaws.{set-of-none, set-of-in, set-of-out}
 use Rattle.ties.specs.Ties.{before, pairs_of}
 use Rattle.report.proofs.RowLaws.{filled, rows_none, rows_more, rows_all}
 use Rattle.report.proofs.standing.Goals as goal
+use Rattle.report.proofs.standing.Goals.{then-row-b, else-row-b}
 
 pub loop-a-init : goal.loop-a-init
 loop-a-init c = (omega arith, rows_none c.pairs-table.result)
@@ -29,10 +29,7 @@ loop-b-preserved c =
     let l = c.before.before.loop-b in
     let f : ℕ → Bool = at c.before.before.before.before.before.before.pairs-table.result c.before.before.before.before.before.loop-a.a in (
       omega arith,
-      ⊎_elim
-          (λ w. w.2 ∙ w.1.ensures ∙ set-of-in f l.b l.set l.invariant.1 w.0.taken)
-          (λ w. w.1 ∙ set-of-out f l.b l.set l.invariant.1 w.0.left)
-          c.if-row-b.branch,
+      elim c.if-row-b.branch [ then-row-b w ↦ w.set-is ∙ w.with_member-set.ensures ∙ set-of-in f l.b l.set l.invariant.1 w.if-row-b.true | else-row-b w ↦ w.set-is ∙ set-of-out f l.b l.set l.invariant.1 w.if-row-b.false ],
     )
 
 pub loop-a-smaller : goal.loop-a-smaller

@@ -1,5 +1,5 @@
 use mathlib.Core.Path.{sym, ap, ◌∙◌}
-use mathlib.Core.Bool.{Bool}
+use mathlib.Core.Bool.{Bool, not}
 use Prim.Native.Nat.{ℕ}
 use Rattle.terms.specs.Limits.{most_transactions}
 use Rattle.sets.specs.Reach.{leads_to}
@@ -13,16 +13,16 @@ use Rattle.rings.proofs.on_ring.Goals as goal
 
 pub returns-then-not-preceded : goal.returns-then-not-preceded
 returns-then-not-preceded c =
-    let a = c.before.before.before.args in
-    let all = c.before.before.size-all in
-    sym (free-of-rings a.ops.now a.n all.result all.ensures a.t c.before.preceded.result c.before.preceded.ensures c.if-not-preceded.true)
+    let a = c.args in
+    let all = c.size-all in
+    sym (free-of-rings a.ops.now a.n all.result all.ensures a.t c.preceded.result c.preceded.ensures (ap not c.if-not-preceded.true))
 
 pub returns : goal.returns
 unfolding on_ring
 returns c =
-    let a = c.before.before.before.before.before.args in
-    let all = c.before.before.before.before.size-all in
-    let s = c.before.spread-r in
+    let a = c.args in
+    let all = c.size-all in
+    let s = c.spread-r in
     c.member.ensures
     ∙ spread-back (ties_of all.result (read_at a.ops.now)) (ties-small all.result (read_at a.ops.now)) a.t s.result s.ensures
     ∙ ap (λ (R : ℕ → ℕ → Bool). leads_to most_transactions R a.t a.t) (order-read a.ops.now a.n all.result all.ensures)

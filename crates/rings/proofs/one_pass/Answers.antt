@@ -15,13 +15,13 @@ loop-i-smaller c = omega arith
 
 pub loop-i-preserved : goal.loop-i-preserved
 loop-i-preserved c =
-    let a = c.before.before.before.before.before.before.args in
-    let l = c.before.before.before.before.loop-i in
-    let q = c.before.op_in-q in
+    let a = c.args in
+    let l = c.loop-i in
+    let q = c.op_in-q in
     (omega arith, c.passed-next.ensures ∙ pass-more (read_at a.ops.now) a.start a.from l.i q.result l.p q.ensures l.invariant.1)
 
 pub returns : goal.returns
 returns c =
-    let a = c.before.before.before.args in
-    let l = c.before.loop-i in
+    let a = c.args in
+    let l = c.loop-i in
     l.invariant.1 ∙ ap (λ (k : ℕ). pass_to k (read_at a.ops.now) a.start a.from) (omega arith)

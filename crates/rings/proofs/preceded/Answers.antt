@@ -12,37 +12,37 @@ loop-i-init c = (omega arith, free-first c.args.total (read_at c.args.ops.now) c
 
 pub returns-then-crossed : goal.returns-then-crossed
 returns-then-crossed c =
-    let a = c.before.before.before.before.before.before.before.before.before.before.before.args in
-    let l = c.before.before.before.before.before.before.before.before.before.before.loop-i in
-    let q = c.before.before.before.before.before.before.before.op_in-q in
-    let live = sym c.before.before.before.before.is_gone.ensures ∙ on-not c.before.before.before.before.is_gone.result c.before.before.before.if-not-is_gone.true in
-    free-met a.total (read_at a.ops.now) a.t l.i l.used l.written l.invariant.1 q.result q.ensures live (omega arith) c.before.before.if-b-t.true (sym c.before.crossed.ensures ∙ c.if-crossed.true)
+    let a = c.args in
+    let l = c.loop-i in
+    let q = c.op_in-q in
+    let live = sym c.is_gone.ensures ∙ c.if-not-is_gone.true in
+    free-met a.total (read_at a.ops.now) a.t l.i l.used l.written l.invariant.1 q.result q.ensures live (omega arith) c.if-b-t.true (sym c.crossed.ensures ∙ c.if-crossed.true)
 
 pub loop-i-preserved-else-crossed : goal.loop-i-preserved-else-crossed
 loop-i-preserved-else-crossed c =
-    let a = c.before.before.before.before.before.before.before.before.before.before.before.args in
-    let l = c.before.before.before.before.before.before.before.before.before.before.loop-i in
-    let q = c.before.before.before.before.before.before.before.op_in-q in
-    let live = sym c.before.before.before.before.is_gone.ensures ∙ on-not c.before.before.before.before.is_gone.result c.before.before.before.if-not-is_gone.true in
-    (omega arith, free_own a.total (read_at a.ops.now) a.t l.i l.used l.written l.invariant.1 q.result q.ensures live c.before.before.if-b-t.true (sym c.before.crossed.ensures ∙ c.if-crossed.false))
+    let a = c.args in
+    let l = c.loop-i in
+    let q = c.op_in-q in
+    let live = sym c.is_gone.ensures ∙ c.if-not-is_gone.true in
+    (omega arith, free_own a.total (read_at a.ops.now) a.t l.i l.used l.written l.invariant.1 q.result q.ensures live c.if-b-t.true (sym c.crossed.ensures ∙ c.if-crossed.false))
 
 pub loop-i-preserved-else-b-t : goal.loop-i-preserved-else-b-t
 loop-i-preserved-else-b-t c =
-    let a = c.before.before.before.before.before.before.before.before.before.before.before.before.args in
-    let l = c.before.before.before.before.before.before.before.before.before.before.before.loop-i in
-    let q = c.before.before.before.before.before.before.before.before.op_in-q in
-    let live = sym c.before.before.before.before.before.is_gone.ensures ∙ on-not c.before.before.before.before.before.is_gone.result c.before.before.before.before.if-not-is_gone.true in
-    (omega arith, rw (c.before.before.with_member-used.ensures, c.with_some-written.ensures, c.before.is_write.ensures) (free_other a.total (read_at a.ops.now) a.t l.i l.used l.written l.invariant.1 q.result q.ensures live c.before.before.before.if-b-t.false))
+    let a = c.args in
+    let l = c.loop-i in
+    let q = c.op_in-q in
+    let live = sym c.is_gone.ensures ∙ c.if-not-is_gone.true in
+    (omega arith, rw (c.with_member-used.ensures, c.with_some-written.ensures, c.is_write.ensures) (free_other a.total (read_at a.ops.now) a.t l.i l.used l.written l.invariant.1 q.result q.ensures live c.if-b-t.false))
 
 pub loop-i-preserved : goal.loop-i-preserved
 loop-i-preserved c =
-    let a = c.before.before.before.before.before.before.before.before.args in
-    let l = c.before.before.before.before.before.before.before.loop-i in
-    let q = c.before.before.before.before.op_in-q in
-    (omega arith, free-gone a.total (read_at a.ops.now) a.t l.i l.used l.written l.invariant.1 q.result q.ensures (sym c.before.is_gone.ensures ∙ off-not c.before.is_gone.result c.if-not-is_gone.false))
+    let a = c.args in
+    let l = c.loop-i in
+    let q = c.op_in-q in
+    (omega arith, free-gone a.total (read_at a.ops.now) a.t l.i l.used l.written l.invariant.1 q.result q.ensures (sym c.is_gone.ensures ∙ c.if-not-is_gone.false))
 
 pub returns : goal.returns
 returns c =
-    let a = c.before.before.args in
-    let l = c.before.loop-i in
+    let a = c.args in
+    let l = c.loop-i in
     free-end a.total (read_at a.ops.now) a.t l.i l.used l.written l.invariant.1 (omega arith)

@@ -12,6 +12,10 @@ use Rattle.rings.proofs.PassLaws.{Passed, pass-done}
 use Rattle.rings.proofs.SpreadLaws.{Known, known-first, known_more, spread-met, spread-done, spread-less}
 use Rattle.rings.proofs.spread.Given as goal
 
+-- who stands before whom
+abbrev pub Order : List ℕ → ℕ → ℕ → ℕ → Bool
+Order l total = ties_of total (read_at l)
+
 abbrev pub invariant-loop-total : goal.invariant-loop-total
 invariant-loop-total l = (l.reached < 2 ^ 64) × Known (Order l.ops l.total) l.start 0 l.reached
 

@@ -5,7 +5,7 @@ use borrow.Author.Rules.{rules}
 use Rattle.rows.proofs.given_at.Goals as goal
 
 pub returns-then-q-lt-MOST : goal.returns-then-q-lt-MOST
-returns-then-q-lt-MOST c = λ h. c.given_to.ensures ∙ ap (given_to c.before.before.before.before.args.receiver) c.before.op_in-op.ensures
+returns-then-q-lt-MOST c = λ h. c.given_to.ensures ∙ ap (given_to c.args.receiver) c.op_in-op.ensures
 
 pub returns : goal.returns
 returns c = λ h. absurd (omega arith)

@@ -8,7 +8,7 @@ use Rattle.ties.proofs.Operation.passed_to.Reads as passed-to-reads
 use Rattle.rows.proofs.handed_by.Goals as goal
 
 pub returns-then-held_by : goal.returns-then-held_by
-returns-then-held_by c = rw (sym c.before.before.held_by.ensures ∙ c.before.if-held_by.true) c.passed_to.ensures
+returns-then-held_by c = rw (sym c.held_by.ensures ∙ c.if-held_by.true) c.passed_to.ensures
 
 pub returns : goal.returns
-returns c = rw (sym c.before.held_by.ensures ∙ c.if-held_by.false)
+returns c = rw (sym c.held_by.ensures ∙ c.if-held_by.false)

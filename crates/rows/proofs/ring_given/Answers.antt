@@ -9,8 +9,8 @@ use Rattle.rows.proofs.ring_given.Goals as goal
 
 pub returns : goal.returns
 returns c =
-    let a = c.before.before.before.args in
-    let all = c.before.before.size-all in
-    let x = c.before.given_at-x in
+    let a = c.args in
+    let all = c.size-all in
+    let x = c.given_at-x in
     c.ring_with.ensures
     ∙ ap (λ (R : ℕ → ℕ → Bool). ring_with R (mem a.some) a.receiver) (order-given a.ops.now a.n all.result all.ensures a.q a.receiver x.result x.ensures)

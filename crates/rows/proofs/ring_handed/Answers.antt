@@ -9,7 +9,7 @@ use Rattle.rows.proofs.ring_handed.Goals as goal
 
 pub returns : goal.returns
 returns c =
-    let a = c.before.before.before.args in
-    let all = c.before.before.size-all in
+    let a = c.args in
+    let all = c.size-all in
     c.ring_with.ensures
     ∙ ap (λ (R : ℕ → ℕ → Bool). ring_with R (mem a.some) a.receiver) (order-handed a.ops.now a.n all.result all.ensures a.t a.receiver _)

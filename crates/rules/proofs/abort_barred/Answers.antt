@@ -6,4 +6,4 @@ use borrow.Author.Rules.{rules}
 use Rattle.rules.proofs.abort_barred.Goals as goal
 
 pub returns-in-Saga : goal.returns-in-Saga
-returns-in-Saga c = c.is_committed.ensures ∙ ap is_committed c.before.own_at-last.ensures ∙ ap (abort_barred (transactions_in c.before.before.before.before.before.args.transactions.now)) (sym c.before.before.before.sort-1.given.1)
+returns-in-Saga c = c.is_committed.ensures ∙ ap is_committed c.own_at-last.ensures ∙ ap (abort_barred (transactions_in c.args.transactions.now)) (sym c.in-Saga.is)

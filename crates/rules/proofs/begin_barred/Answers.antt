@@ -6,7 +6,7 @@ use borrow.Author.Rules.{rules}
 use Rattle.rules.proofs.begin_barred.Goals as goal
 
 pub returns-in-Step : goal.returns-in-Step
-returns-in-Step c = ap not c.step_begins.ensures ∙ ap (begin_barred (transactions_in c.before.before.before.before.args.transactions.now)) (sym c.before.before.sort-1.given.1)
+returns-in-Step c = ap not c.step_begins.ensures ∙ ap (begin_barred (transactions_in c.args.transactions.now)) (sym c.in-Step.is)
 
 pub returns-in-Undo : goal.returns-in-Undo
-returns-in-Undo c = ap not c.undo_begins.ensures ∙ ap (begin_barred (transactions_in c.before.before.before.before.args.transactions.now)) (sym c.before.before.sort-in-Undo-1.given.1)
+returns-in-Undo c = ap not c.undo_begins.ensures ∙ ap (begin_barred (transactions_in c.args.transactions.now)) (sym c.in-Undo.is)

@@ -23,16 +23,16 @@ loop-t-init c = (omega arith, sym (any_none _))
 
 pub loop-t-preserved : goal.loop-t-preserved
 loop-t-preserved c =
-    let a = c.before.before.before.before.before.before.before.before.args in
-    let l = c.before.before.before.before.before.before.before.loop-t in
+    let a = c.args in
+    let l = c.loop-t in
     let ts = transactions_in a.transactions.now in
-    let under = c.before.is_under.ensures ∙ ap (is_under a.m) (c.before.before.before.before.parent_in_lem.ensures ∙ sym (parent-low a.transactions.now l.t (omega arith))) in
-    let active = c.is_active.ensures ∙ ap is_active (c.before.before.phase_in-phase.ensures ∙ sym (phase-low a.transactions.now l.t (omega arith))) in
+    let under = c.is_under.ensures ∙ ap (is_under a.m) (c.parent_in-parent.ensures ∙ sym (parent-low a.transactions.now l.t (omega arith))) in
+    let active = c.is_active.ensures ∙ ap is_active (c.phase_in-phase.ensures ∙ sym (phase-low a.transactions.now l.t (omega arith))) in
     (omega arith, ap₂ ◌||◌ l.invariant.1 (ap₂ ◌&&◌ under active) ∙ sym (any-more l.t (active_child ts a.m)))
 
 pub returns : goal.returns
 unfolding child_active
 returns c =
-    let a = c.before.before.args in
-    let l = c.before.loop-t in
+    let a = c.args in
+    let l = c.loop-t in
     l.invariant.1 ∙ ap (λ (n : ℕ). any_below n (active_child (transactions_in a.transactions.now) a.m)) (omega arith)

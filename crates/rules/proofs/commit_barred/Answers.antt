@@ -7,7 +7,7 @@ use borrow.Author.Rules.{rules}
 use Rattle.rules.proofs.commit_barred.Goals as goal
 
 pub returns-in-Saga : goal.returns-in-Saga
-returns-in-Saga c = ap not (c.is_committed.ensures ∙ ap is_committed c.before.own_at-last.ensures) ∙ ap (commit_barred (transactions_in c.before.before.before.before.before.args.transactions.now)) (sym c.before.before.before.sort-1.given.1)
+returns-in-Saga c = ap not (c.is_committed.ensures ∙ ap is_committed c.own_at-last.ensures) ∙ ap (commit_barred (transactions_in c.args.transactions.now)) (sym c.in-Saga.is)
 
 pub returns-in-Step : goal.returns-in-Step
-returns-in-Step c = ap not (c.is_active.ensures ∙ ap is_active c.before.own_at-s.ensures) ∙ ap (commit_barred (transactions_in c.before.before.before.before.before.args.transactions.now)) (sym c.before.before.before.sort-in-Step-1.given.1)
+returns-in-Step c = ap not (c.is_active.ensures ∙ ap is_active c.own_at-s.ensures) ∙ ap (commit_barred (transactions_in c.args.transactions.now)) (sym c.in-Step.is)

@@ -5,7 +5,7 @@ use borrow.Author.Rules.{rules}
 use Rattle.rules.proofs.kind_bars.Goals as goal
 
 pub returns-then-begins : goal.returns-then-begins
-returns-then-begins c = let a = c.before.before.args in c.begin_bars.ensures ∙ ap (λ (b : Bool). kind_bars b a.kind a.base) (sym c.before.if-begins.true)
+returns-then-begins c = let a = c.args in c.begin_bars.ensures ∙ ap (λ (b : Bool). kind_bars b a.kind a.base) (sym c.if-begins.true)
 
 pub returns : goal.returns
-returns c = let a = c.before.before.args in c.commit_bars.ensures ∙ ap (λ (b : Bool). kind_bars b a.kind a.base) (sym c.before.if-begins.false)
+returns c = let a = c.args in c.commit_bars.ensures ∙ ap (λ (b : Bool). kind_bars b a.kind a.base) (sym c.if-begins.false)

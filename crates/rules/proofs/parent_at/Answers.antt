@@ -8,7 +8,7 @@ use Rattle.rules.proofs.parent_in.Reads as parent-in-reads
 use Rattle.rules.proofs.parent_at.Goals as goal
 
 pub returns-then-t-ge-TRANSACTIONS : goal.returns-then-t-ge-TRANSACTIONS
-returns-then-t-ge-TRANSACTIONS c = sym (parent-past c.before.args.transactions.now c.before.args.t (omega arith))
+returns-then-t-ge-TRANSACTIONS c = sym (parent-past c.args.transactions.now c.args.t (omega arith))
 
 pub returns : goal.returns
-returns c = let a = c.before.before.before.args in c.parent_in_lem.ensures ∙ sym (parent-low a.transactions.now a.t (omega arith))
+returns c = let a = c.args in c.parent_in.ensures ∙ sym (parent-low a.transactions.now a.t (omega arith))

@@ -5,4 +5,4 @@ use Rattle.rules.proofs.parent_code.Lts as lts
 use Rattle.rules.proofs.parent_code.Goals as goal
 
 pub returns-in-Under : goal.returns-in-Under
-returns-in-Under c = rw c.before.parent-1.given.1
+returns-in-Under c = rw c.in-Under.is

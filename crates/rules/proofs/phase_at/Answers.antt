@@ -5,7 +5,7 @@ use borrow.Author.Rules.{rules}
 use Rattle.rules.proofs.phase_at.Goals as goal
 
 pub returns-then-t-ge-TRANSACTIONS : goal.returns-then-t-ge-TRANSACTIONS
-returns-then-t-ge-TRANSACTIONS c = sym (phase-past c.before.args.transactions.now c.before.args.t (omega arith))
+returns-then-t-ge-TRANSACTIONS c = sym (phase-past c.args.transactions.now c.args.t (omega arith))
 
 pub returns : goal.returns
-returns c = let a = c.before.before.before.args in c.phase_in.ensures ∙ sym (phase-low a.transactions.now a.t (omega arith))
+returns c = let a = c.args in c.phase_in.ensures ∙ sym (phase-low a.transactions.now a.t (omega arith))

@@ -8,5 +8,5 @@ use Rattle.rules.proofs.phase_of.Goals as goal
 
 pub returns-then-t-ge-TRANSACTIONS : goal.returns-then-t-ge-TRANSACTIONS
 returns-then-t-ge-TRANSACTIONS c =
-    let whole : length c.before.args.t1 ≡ most_transactions = search rules in
-    sym (past-idle c.before.args.t1 c.before.args.t (omega arith))
+    let whole : length c.args.transactions ≡ most_transactions = search rules in
+    sym (past-idle c.args.transactions c.args.t (omega arith))

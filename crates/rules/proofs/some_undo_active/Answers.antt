@@ -17,15 +17,15 @@ loop-t-init c = (omega arith, sym (any_none _))
 
 pub loop-t-preserved : goal.loop-t-preserved
 loop-t-preserved c =
-    let a = c.before.before.before.before.before.before.before.args in
-    let l = c.before.before.before.before.before.before.loop-t in
+    let a = c.args in
+    let l = c.loop-t in
     let ts = transactions_in a.transactions.now in
-    let undo = c.before.is_undo.ensures ∙ ap is_undo c.before.before.before.before.sort_at-sort.ensures in
-    let active = c.is_active.ensures ∙ ap is_active (c.before.before.phase_in-phase.ensures ∙ sym (phase-low a.transactions.now l.t (omega arith))) in
+    let undo = c.is_undo.ensures ∙ ap is_undo c.sort_at-sort.ensures in
+    let active = c.is_active.ensures ∙ ap is_active (c.phase_in-phase.ensures ∙ sym (phase-low a.transactions.now l.t (omega arith))) in
     (omega arith, ap₂ ◌||◌ l.invariant.1 (ap₂ ◌&&◌ undo active) ∙ sym (any-more l.t (undo_on a.sheet.now ts)))
 
 pub returns : goal.returns
 returns c =
-    let a = c.before.before.args in
-    let l = c.before.loop-t in
+    let a = c.args in
+    let l = c.loop-t in
     l.invariant.1 ∙ ap (λ (n : ℕ). any_below n (undo_on a.sheet.now (transactions_in a.transactions.now))) (omega arith)

@@ -15,12 +15,12 @@ under_in-requires c = omega arith
 
 pub returns-then-t-lt-TRANSACTIONS : goal.returns-then-t-lt-TRANSACTIONS
 returns-then-t-lt-TRANSACTIONS c =
-    let a = c.before.before.before.before.args in
+    let a = c.args in
     ap (λ (x : ℕ). transactions_in (set a.transactions.now a.t x)) c.under_in.ensures
     ∙ spawned-in a.transactions.now a.m a.t (omega arith) (omega arith)
 
 pub returns-else-t-lt-TRANSACTIONS : goal.returns-else-t-lt-TRANSACTIONS
-returns-else-t-lt-TRANSACTIONS c = let a = c.before.before.args in spawned-past a.transactions.now a.m a.t (omega arith) (omega arith)
+returns-else-t-lt-TRANSACTIONS c = let a = c.args in spawned-past a.transactions.now a.m a.t (omega arith) (omega arith)
 
 pub returns-else-m-lt-TRANSACTIONS : goal.returns-else-m-lt-TRANSACTIONS
-returns-else-m-lt-TRANSACTIONS c = let a = c.before.args in spawned-none a.transactions.now a.m a.t (omega arith)
+returns-else-m-lt-TRANSACTIONS c = let a = c.args in spawned-none a.transactions.now a.m a.t (omega arith)

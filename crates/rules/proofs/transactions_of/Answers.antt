@@ -23,19 +23,19 @@ loop-t-init c = (omega arith, refl, λ e. refl)
 
 pub loop-t-preserved : goal.loop-t-preserved
 loop-t-preserved c =
-    let a = c.before.before.before.before.before.before.before.args in
-    let l = c.before.before.before.before.before.loop-t in
+    let a = c.args in
+    let l = c.loop-t in
     let ts = transactions_in a.transactions.now in
-    let x : Transaction = record { phase = c.before.before.phase_in-phase.result; parent = c.parent_in_lem.result } in (
+    let x : Transaction = record { phase = c.phase_in-phase.result; parent = c.parent_in-parent.result } in (
       omega arith,
       length-set l.all l.t x ∙ l.invariant.1,
       λ e.
           copied_more ts idle l.t l.all x (l.invariant.2 e) (omega arith) (omega arith)
-          (ap₂ (λ (p : Phase) (m : Parent). record { phase = p; parent = m }) c.before.before.phase_in-phase.ensures c.parent_in_lem.ensures ∙ sym (at_low a.transactions.now l.t (omega arith))),
+          (ap₂ (λ (p : Phase) (m : Parent). record { phase = p; parent = m }) c.phase_in-phase.ensures c.parent_in-parent.ensures ∙ sym (at_low a.transactions.now l.t (omega arith))),
     )
 
 pub returns : goal.returns
 returns c =
-    let a = c.before.before.before.args in
-    let l = c.before.loop-t in
+    let a = c.args in
+    let l = c.loop-t in
     λ e. copied_all (transactions_in a.transactions.now) idle most_transactions l.t l.all (l.invariant.2 e) (omega arith) l.invariant.1 e

@@ -4,4 +4,4 @@ use borrow.Author.Rules.{rules}
 use Rattle.rules.proofs.with_phase.Goals as goal
 
 pub overflow_add-result : goal.overflow_add-result
-overflow_add-result c = let low = code-le c.before.args.phase in omega (arith, c.phase_code-code.ensures)
+overflow_add-result c = let low = code-le c.args.phase in omega (arith, c.phase_code-code.ensures)

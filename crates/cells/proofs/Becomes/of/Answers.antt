@@ -5,7 +5,7 @@ use borrow.Author.Rules.{rules}
 use Rattle.cells.proofs.Becomes.of.Goals as goal
 
 pub returns-in-Ended : goal.returns-in-Ended
-returns-in-Ended c = c.ended_as.ensures ∙ ap (λ (how : Becomes). becomes how c.before.before.before.before.args.op) (sym c.before.before.self-1.given.1)
+returns-in-Ended c = c.ended_as.ensures ∙ ap (λ (how : Becomes). becomes how c.args.op) (sym c.in-Ended.is)
 
 pub returns-in-Passed : goal.returns-in-Passed
-returns-in-Passed c = c.passed_to.ensures ∙ ap (λ (how : Becomes). becomes how c.before.before.before.before.args.op) (sym c.before.before.self-in-Passed-1.given.1)
+returns-in-Passed c = c.passed_to.ensures ∙ ap (λ (how : Becomes). becomes how c.args.op) (sym c.in-Passed.is)

@@ -8,11 +8,11 @@ use Rattle.listing.proofs.Text.beside.Goals as goal
 
 pub returns-in-First : goal.returns-in-First
 returns-in-First c =
-    let a = c.before.before.args in
-    sym (all_none (text_of a.self)) ∙ ap (λ (ed : Edition). with_all (text_of a.self) (record_words ed a.pupil)) (sym c.enum_told-1.given.1)
+    let a = c.args in
+    sym (all_none (text_of a.self)) ∙ ap (λ (ed : Edition). with_all (text_of a.self) (record_words ed a.pupil)) (sym c.in-First.is)
 
 pub returns-in-Second : goal.returns-in-Second
 returns-in-Second c =
-    let a = c.before.before.before.before.args in
-    then _ _ _ c.before.blank.ensures c.number.ensures
-    ∙ ap (λ (ed : Edition). with_all (text_of a.self) (record_words ed a.pupil)) (sym c.before.before.enum_told-in-Second-1.given.1)
+    let a = c.args in
+    then _ _ _ c.blank.ensures c.number.ensures
+    ∙ ap (λ (ed : Edition). with_all (text_of a.self) (record_words ed a.pupil)) (sym c.in-Second.is)

@@ -8,14 +8,14 @@ use Rattle.listing.proofs.Text.fate.Goals as goal
 pub returns-in-Aborted : goal.returns-in-Aborted
 returns-in-Aborted c =
     c.word.ensures
-    ∙ ap (λ (x : Fate). with_all (text_of c.before.before.before.before.args.self) (fate_word x)) (sym c.before.before.enum_told-1.given.1)
+    ∙ ap (λ (x : Fate). with_all (text_of c.args.self) (fate_word x)) (sym c.in-Aborted.is)
 
 pub returns-in-Active : goal.returns-in-Active
 returns-in-Active c =
     c.word-in-Active.ensures
-    ∙ ap (λ (x : Fate). with_all (text_of c.before.before.before.before.args.self) (fate_word x)) (sym c.before.before.enum_told-in-Active-1.given.1)
+    ∙ ap (λ (x : Fate). with_all (text_of c.args.self) (fate_word x)) (sym c.in-Active.is)
 
 pub returns-in-Committed : goal.returns-in-Committed
 returns-in-Committed c =
     c.word-in-Committed.ensures
-    ∙ ap (λ (x : Fate). with_all (text_of c.before.before.before.before.args.self) (fate_word x)) (sym c.before.before.enum_told-in-Committed-1.given.1)
+    ∙ ap (λ (x : Fate). with_all (text_of c.args.self) (fate_word x)) (sym c.in-Committed.is)

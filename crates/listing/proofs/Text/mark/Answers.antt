@@ -8,9 +8,9 @@ use Rattle.listing.proofs.Text.mark.Goals as goal
 pub returns-in-Read : goal.returns-in-Read
 returns-in-Read c =
     c.word.ensures
-    ∙ ap (λ (x : Mark). with_all (text_of c.before.before.before.before.args.self) (mark_word x)) (sym c.before.before.enum_told-1.given.1)
+    ∙ ap (λ (x : Mark). with_all (text_of c.args.self) (mark_word x)) (sym c.in-Read.is)
 
 pub returns-in-Write : goal.returns-in-Write
 returns-in-Write c =
     c.word-in-Write.ensures
-    ∙ ap (λ (x : Mark). with_all (text_of c.before.before.before.before.args.self) (mark_word x)) (sym c.before.before.enum_told-in-Write-1.given.1)
+    ∙ ap (λ (x : Mark). with_all (text_of c.args.self) (mark_word x)) (sym c.in-Write.is)

@@ -14,9 +14,9 @@ loop-i-init c = (omega arith, sym (all_none _))
 
 pub loop-i-preserved : goal.loop-i-preserved
 loop-i-preserved c =
-    let l = c.before.before.before.loop-i in
-    let word = c.before.before.before.before.before.args.letters.now in
-    let text = text_of c.before.before.before.before.before.args.self in (
+    let l = c.loop-i in
+    let word = c.args.letters.now in
+    let text = text_of c.args.self in (
       omega arith,
       c.byte-next.ensures
           ∙ ap (λ (t : List ℕ). with_byte t (get_or word l.i 0)) l.invariant.1
@@ -25,6 +25,6 @@ loop-i-preserved c =
 
 pub returns : goal.returns
 returns c =
-    let word = c.before.before.before.args.letters.now in
-    c.before.loop-i.invariant.1
-    ∙ ap (with_all (text_of c.before.before.before.args.self)) (take_all c.before.loop-i.i word (omega arith))
+    let word = c.args.letters.now in
+    c.loop-i.invariant.1
+    ∙ ap (with_all (text_of c.args.self)) (take_all c.loop-i.i word (omega arith))

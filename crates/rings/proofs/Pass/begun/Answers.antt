@@ -6,12 +6,12 @@ use Rattle.rings.proofs.Pass.begun.Goals as goal
 
 pub returns : goal.returns
 returns c =
-    let a = c.before.before.before.before.args in
+    let a = c.args in
     let p = a.self in
     λ i.
     record {
-      mine = c.before.before.with_member.ensures i;
-      put = (c.with_some.ensures ∙ ap (λ (b : Bool). with_some b p.put a.q.object) c.before.is_write.ensures) i;
+      mine = c.with_member.ensures i;
+      put = (c.with_some.ensures ∙ ap (λ (b : Bool). with_some b p.put a.q.object) c.is_write.ensures) i;
       used = p.used;
       written = p.written;
       reached = p.reached;

@@ -5,4 +5,4 @@ use Rattle.rules.proofs.Parent.fits.Lts as lts
 use Rattle.rules.proofs.Parent.fits.Goals as goal
 
 pub returns-in-Under : goal.returns-in-Under
-returns-in-Under c = rw c.before.self-1.given.1
+returns-in-Under c = rw c.in-Under.is

@@ -6,4 +6,4 @@ use Rattle.rules.proofs.Parent.is_under.Lts as lts
 use Rattle.rules.proofs.Parent.is_under.Goals as goal
 
 pub returns-in-Under : goal.returns-in-Under
-returns-in-Under c = rw c.before.self-1.given.1
+returns-in-Under c = rw c.in-Under.is
