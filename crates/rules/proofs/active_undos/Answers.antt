@@ -41,13 +41,13 @@ loop-t-preserved c =
     let active = c.is_active.ensures ∙ ap is_active (c.phase_in-phase.ensures ∙ sym (phase-low a.transactions.now l.t (omega (arith, l.invariant.2)))) in (
       omega arith,
       elim c.if-is_active.branch [
-          then-is_active+then-is_undo w ↦
-          w.set-is ∙ w.with_member-set.ensures
-          ∙ set-of-in f l.t l.set l.invariant.1
-          (and_on (is_undo (sort_at a.sheet.now l.t)) (is_active (phase_of ts l.t)) (sym (w.is_undo.ensures ∙ ap is_undo w.sort_at-sort.ensures) ∙ w.if-is_undo.true) (sym active ∙ w.if-is_active.true))
-          | then-is_active+else-is_undo w ↦ w.set-is ∙ set-of-out f l.t l.set l.invariant.1 (rw (sym (w.is_undo.ensures ∙ ap is_undo w.sort_at-sort.ensures) ∙ w.if-is_undo.false))
-          | else-is_active w ↦ w.set-is ∙ set-of-out f l.t l.set l.invariant.1 (rw (sym active ∙ w.if-is_active.false, and-false (is_undo (sort_at a.sheet.now l.t))))
-          ],
+        | then-is_active+then-is_undo w ↦
+            w.set-is ∙ w.with_member-set.ensures
+            ∙ set-of-in f l.t l.set l.invariant.1
+            (and_on (is_undo (sort_at a.sheet.now l.t)) (is_active (phase_of ts l.t)) (sym (w.is_undo.ensures ∙ ap is_undo w.sort_at-sort.ensures) ∙ w.if-is_undo.true) (sym active ∙ w.if-is_active.true))
+        | then-is_active+else-is_undo w ↦ w.set-is ∙ set-of-out f l.t l.set l.invariant.1 (rw (sym (w.is_undo.ensures ∙ ap is_undo w.sort_at-sort.ensures) ∙ w.if-is_undo.false))
+        | else-is_active w ↦ w.set-is ∙ set-of-out f l.t l.set l.invariant.1 (rw (sym active ∙ w.if-is_active.false, and-false (is_undo (sort_at a.sheet.now l.t))))
+      ],
       l.invariant.2,
     )
 

@@ -38,8 +38,8 @@ loop-i-preserved c =
       l.invariant.1,
       search-miss (bars_on a.begins a.sheet.now ts a.t) l.i l.invariant.2
           (elim c.if-dependent-t.branch [
-          then-dependent-t+else-kind_bars w ↦ sym w.if-kind_bars.false ∙ own-dependent a.begins ts a.t d.result w.if-dependent-t.true w.phase_at-phase.ensures w.kind_bars.ensures ∙ same
-          | else-dependent-t w ↦ other-dependent a.begins ts a.t d.result w.if-dependent-t.false ∙ same
+            | then-dependent-t+else-kind_bars w ↦ sym w.if-kind_bars.false ∙ own-dependent a.begins ts a.t d.result w.if-dependent-t.true w.phase_at-phase.ensures w.kind_bars.ensures ∙ same
+            | else-dependent-t w ↦ other-dependent a.begins ts a.t d.result w.if-dependent-t.false ∙ same
           ]) refl,
     )
 
