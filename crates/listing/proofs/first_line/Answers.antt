@@ -30,4 +30,4 @@ returns-in-Refused c =
     (then _ _ _ c.blank-in-Refused.ensures
     (then _ _ _ c.number-in-Refused-3.ensures
     c.end-in-Refused.ensures))))))
-    ∙ ap (λ (x : Verdict). with_all [] (first_line_by x a.events a.place)) (sym c.answer-1.given.1)
+    ∙ ap (λ (x : Verdict). with_all [] (first_line_by x a.events a.place)) (sym c.in-Refused.is)

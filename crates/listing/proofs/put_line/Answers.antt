@@ -20,7 +20,7 @@ returns-in-Wrote c =
     let p = c.put in
     let l = c.line-text in
     let there = place-there a.judgement a.k room (omega (arith, c.line_count-lines.ensures, c.if-lines-k.false)) in (
-      ap placed (sym c.n-1.given.1 ∙ p.ensures.0 ∙ ap (λ (x : List ℕ). put_answer x room) l.ensures) ∙ there.0,
+      ap placed (sym c.in-Wrote.is ∙ p.ensures.0 ∙ ap (λ (x : List ℕ). put_answer x room) l.ensures) ∙ there.0,
       p.ensures.1 ∙ ap (λ (x : List ℕ). put_room x room) l.ensures ∙ there.1,
     )
 

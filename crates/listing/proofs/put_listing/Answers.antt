@@ -16,6 +16,6 @@ returns c =
     let room = a.room.now in
     let p = c.put_whole in
     let all =
-    ap (λ (r : Judgement). listing_of r (listed r a.circles a.book.now)) c.read_by_lem.ensures
+    ap (λ (r : Judgement). listing_of r (listed r a.circles a.book.now)) c.read_by-judgement.ensures
     ∙ ap (listing_of (judgement_by a.circles (edition_of a.book.now) a.book.now)) (all_listed a.circles (edition_of a.book.now) a.book.now) in
     (p.ensures.0 ∙ ap (λ (l : List ℕ). put_answer l room) all, p.ensures.1 ∙ ap (λ (l : List ℕ). put_room l room) all)

@@ -10,6 +10,7 @@ use Rattle.items.specs.Items.{items_after}
 use Rattle.rules.specs.States.{empty_state}
 use Rattle.tables.specs.Reading.{edition_of, tables_by}
 use Rattle.tables.specs.Sorts.{number_of_all}
+use Rattle.tables.specs.declared.Circles.{Circles}
 use Rattle.tables.specs.declared.TablesRead.{TablesRead}
 use Rattle.tables.proofs.AcceptedWellHolds.{accepted-well}
 use Rattle.tables.specs.declared.TablesAnswer.TheVariants.{Read}
@@ -22,6 +23,19 @@ use Rattle.listing.specs.Lines.{most_listing, no_lines}
 use Rattle.listing.proofs.StepLaws.{nos-end, nos-none}
 use Rattle.listing.proofs.put_no_lines.Goals as goal
 
+-- the tables are read as those of the edition that the book names
+tables-are : (circles : Circles) (book : List ℕ) (ed : Edition) (read : TablesRead) → read ≡ tables_by circles ed book → ed ≡ edition_of book
+    → read ≡ tables_by circles (edition_of book) book
+tables-are circles book ed read e same = e ∙ ap (λ (x : Edition). tables_by circles x book) same
+
+-- and the refused events are those that a book of that edition has from its first event on
+refused-are : (circles : Circles) (book : List ℕ) (ed : Edition) (read : TablesRead) → read ≡ tables_by circles ed book → ed ≡ edition_of book
+    → (start : ℕ) → length book ≤ most_bytes → read.answer ≡ Read start
+    → refused_from read.tables empty_state 0 (items_after ed book start) ≡ refused_by circles (edition_of book) book
+refused-are circles book ed read e same start short answer =
+    ap (λ (x : Edition). refused_from read.tables empty_state 0 (items_after x book start)) same
+    ∙ refused-there circles (edition_of book) book short read (tables-are circles book ed read e same) start answer
+
 pub returns-then-count-eq0 : goal.returns-then-count-eq0
 returns-then-count-eq0 c = let a = c.args in nothing-laid a.at a.room.now (nos-end a.count _ (omega arith))
 
@@ -30,38 +44,31 @@ returns-then-book-gt-BYTES c =
     let a = c.args in
     nothing-laid a.at a.room.now (nos-none a.count (long-refused a.circles (edition_of a.book.now) a.book.now (omega arith)))
 
--- and the refused events are those that a book of that edition has from its first event on
-refused-are : (c : After-read_tables-read) (start : ℕ) → length c.args.book.now ≤ most_bytes → c.read_tables-read.result.answer ≡ Read start
-    → let a = c.args in
-    refused_from c.read_tables-read.result.tables empty_state 0 (items_after c.edition_of-edition.result a.book.now start)
-    ≡ refused_by a.circles (edition_of a.book.now) a.book.now
-refused-are c start short e =
-    let a = c.args in
-    ap (λ (ed : Edition). refused_from c.read_tables-read.result.tables empty_state 0 (items_after ed a.book.now start)) c.edition_of-edition.ensures
-    ∙ refused-there a.circles (edition_of a.book.now) a.book.now short c.read_tables-read.result (tables-are c) start e
-
 pub put_no_lines_from-requires : goal.put_no_lines_from-requires
 put_no_lines_from-requires c =
-    let tables-are : let a = c.args in c.read_tables-read.result ≡ tables_by a.circles (edition_of a.book.now) a.book.now =
-        let a = c.args in
-        c.read_tables-read.ensures ∙ ap (λ (ed : Edition). tables_by a.circles ed a.book.now) c.edition_of-edition.ensures in
     let a = c.args in
-    let answer = c.answer-1.given.1 in
-    let read = ap (λ (x : TablesRead). x.answer-1) (sym tables-are) ∙ answer in
-    let few = subst⁻¹ (λ (x : TablesRead). number_of_all x.tables-1 ≤ most_transactions) tables-are (accepted-well a.circles (edition_of a.book.now) a.book.now _ read).fits in
-    (few, (omega arith, subst⁻¹ (λ (l : List No). a.at + length (no_lines (take a.count l)) ≤ most_listing) (refused-are c _ (omega arith) answer) c.requires))
+    let read = c.read_tables-read in
+    let ed = c.edition_of-edition in
+    let answer = c.in-Read.is in
+    let same = tables-are a.circles a.book.now ed.result read.result read.ensures ed.ensures in
+    let accepted = ap (λ (x : TablesRead). x.answer) (sym same) ∙ answer in
+    let few = subst⁻¹ (λ (x : TablesRead). number_of_all x.tables ≤ most_transactions) same (accepted-well a.circles (edition_of a.book.now) a.book.now _ accepted).fits in
+    let all = refused-are a.circles a.book.now ed.result read.result read.ensures ed.ensures _ (omega arith) answer in
+    (few, (omega arith, subst⁻¹ (λ (l : List No). a.at + length (no_lines (take a.count l)) ≤ most_listing) all c.requires))
 
 pub returns-in-Read : goal.returns-in-Read
 returns-in-Read c =
     let a = c.args in
+    let read = c.read_tables-read in
+    let ed = c.edition_of-edition in
     let p = c.put_no_lines_from in
-    subst (λ (l : List No). Lays a.at (no_lines (take a.count l)) a.room.now p.result p.new.room)
-    (refused-are c _ (omega arith) c.answer-1.given.1) p.ensures
+    let all = refused-are a.circles a.book.now ed.result read.result read.ensures ed.ensures _ (omega arith) c.in-Read.is in
+    subst (λ (l : List No). Lays a.at (no_lines (take a.count l)) a.room.now p.result p.new.room) all p.ensures
 
 pub returns-in-Refused : goal.returns-in-Refused
 returns-in-Refused c =
-    let tables-are : let a = c.args in c.read_tables-read.result ≡ tables_by a.circles (edition_of a.book.now) a.book.now =
-        let a = c.args in
-        c.read_tables-read.ensures ∙ ap (λ (ed : Edition). tables_by a.circles ed a.book.now) c.edition_of-edition.ensures in
     let a = c.args in
-    nothing-laid a.at a.room.now (nos-none a.count (refused_none a.circles (edition_of a.book.now) a.book.now (omega arith) c.read_tables-read.result tables-are _ _ c.in-Refused.is))
+    let read = c.read_tables-read in
+    let ed = c.edition_of-edition in
+    let same = tables-are a.circles a.book.now ed.result read.result read.ensures ed.ensures in
+    nothing-laid a.at a.room.now (nos-none a.count (refused_none a.circles (edition_of a.book.now) a.book.now (omega arith) read.result same _ _ c.in-Refused.is))

@@ -23,26 +23,6 @@ use Rattle.listing.specs.Lines.{no_line, no_lines}
 use Rattle.listing.proofs.StepLaws.{nos-end, nos-none, nos-step}
 use Rattle.listing.proofs.put_no_lines_from.Goals as goal
 
--- the line of the next refused event, and those behind it
-to-come : (c : In-Next) (tables : Tables) → Holds tables c.sheet_of-sheet.result
-    → let a = c.args in
-    let l = c.loop-left in
-    let ts = c.next_refused-found.new.transactions in
-    let ops = c.next_refused-found.new.ops in
-    let after = c.found-1.given.0.1.0 in
-    length a.book.now ≤ most_bytes
-    → Laying a.at (no_lines (take a.count (refused_from tables empty_state 0 (items_after a.edition a.book.now a.start)))) a.room.now l.end
-    (no_line c.found-1.given.0.0 ++ no_lines (take (l.left - 1) (refused_after tables a.edition a.book.now (state_in ts ops after.count) after))) l.room
-    × (after.index ≤ after.place) × Ringed (ops_in ops after.count) c.found-1.given.0.1.1.0
-to-come c tables h short =
-    let a = c.args in
-    let l = c.loop-left in
-    let n = c.next_refused-found in
-    let so = l.invariant.1 tables h short in
-    let next = subst (λ (f : Found). Finds tables a.edition a.book.now (state_in l.transactions l.ops l.cursor.count) l.cursor f n.new.transactions n.new.ops) c.found-1.given.1 (n.ensures tables h short so.1 so.2) in
-    let some : 0 < l.left = omega arith in
-    (laying-same so.0 (ap (λ (r : List No). no_lines (take l.left r)) next.0 ∙ nos-step l.left _ _ some), next.1, next.2)
-
 pub loop-left-init : goal.loop-left-init
 loop-left-init c =
     let a = c.args in (
@@ -57,8 +37,21 @@ loop-left-init c =
 
 pub lay_no-end-requires : goal.lay_no-end-requires
 lay_no-end-requires c =
-    let go = to-come c c.args.tables (c.sheet_of-sheet.ensures c.requires.0) c.requires.1.0 in
-    let next = laying-next (no_line c.found-1.given.0.0) _ go.0 in
+    let a = c.args in
+    let l = c.loop-left in
+    let n = c.next_refused-found in
+    let found = c.in-Next in
+    let to-come : (tables : Tables) → Holds tables c.sheet_of-sheet.result → length a.book.now ≤ most_bytes
+    → Laying a.at (no_lines (take a.count (refused_from tables empty_state 0 (items_after a.edition a.book.now a.start)))) a.room.now l.end
+    (no_line found.no ++ no_lines (take (l.left - 1) (refused_after tables a.edition a.book.now (state_in n.new.transactions n.new.ops found.after.count) found.after))) l.room
+    × (found.after.index ≤ found.after.place) × Ringed (ops_in n.new.ops found.after.count) found.known =
+    λ tables h short.
+    let so = l.invariant.1 tables h short in
+    let next = subst (λ (f : Found). Finds tables a.edition a.book.now (state_in l.transactions l.ops l.cursor.count) l.cursor f n.new.transactions n.new.ops) found.is (n.ensures tables h short so.1 so.2) in
+    let some : 0 < l.left = omega arith in
+    (laying-same so.0 (ap (λ (r : List No). no_lines (take l.left r)) next.0 ∙ nos-step l.left _ _ some), next.1, next.2) in
+    let go = to-come a.tables (c.sheet_of-sheet.ensures c.requires.0) c.requires.1.0 in
+    let next = laying-next (no_line found.no) _ go.0 in
     omega (arith, next, c.requires.1.1)
 
 pub loop-left-smaller : goal.loop-left-smaller
@@ -66,12 +59,24 @@ loop-left-smaller c = omega arith
 
 pub loop-left-preserved : goal.loop-left-preserved
 loop-left-preserved c =
+    let a = c.args in
     let l = c.loop-left in
+    let n = c.next_refused-found in
+    let found = c.in-Next in
+    let to-come : (tables : Tables) → Holds tables c.sheet_of-sheet.result → length a.book.now ≤ most_bytes
+    → Laying a.at (no_lines (take a.count (refused_from tables empty_state 0 (items_after a.edition a.book.now a.start)))) a.room.now l.end
+    (no_line found.no ++ no_lines (take (l.left - 1) (refused_after tables a.edition a.book.now (state_in n.new.transactions n.new.ops found.after.count) found.after))) l.room
+    × (found.after.index ≤ found.after.place) × Ringed (ops_in n.new.ops found.after.count) found.known =
+    λ tables h short.
+    let so = l.invariant.1 tables h short in
+    let next = subst (λ (f : Found). Finds tables a.edition a.book.now (state_in l.transactions l.ops l.cursor.count) l.cursor f n.new.transactions n.new.ops) found.is (n.ensures tables h short so.1 so.2) in
+    let some : 0 < l.left = omega arith in
+    (laying-same so.0 (ap (λ (r : List No). no_lines (take l.left r)) next.0 ∙ nos-step l.left _ _ some), next.1, next.2) in
     let p = c.lay_no-end in (
       p.auto.room ∙ l.invariant.0,
       λ tables h short.
-          let go = to-come c tables h short in
-          (laying-more (no_line c.found-1.given.0.0) _ p.result p.new.room go.0 p.ensures p.auto.room, go.1, go.2),
+          let go = to-come tables h short in
+          (laying-more (no_line found.no) _ p.result p.new.room go.0 p.ensures p.auto.room, go.1, go.2),
     )
 
 pub returns-in-NoMore : goal.returns-in-NoMore

@@ -1,6 +1,6 @@
 use borrow.Author.Rules.{rules}
 use native.Mathlib.Omega.{arith}
-use borrow.Author.Tests.{leb-false, leb-true, not-false, not-true}
+use borrow.Author.Tests.{leb-false, leb-true}
 use mathlib.Core.Path.{sym, ◌∙◌}
 use lib.ListN.{length}
 use Rattle.listing.specs.Lines.{listing_of}
@@ -13,7 +13,7 @@ returns-then-not-holds c =
     let a = c.args in
     let room = a.room.now in
     let all = listing_of a.judgement (listed a.judgement a.circles a.book.now) in
-    put_small all room (leb-false (length all) (length room) (sym c.holds.ensures ∙ not-true c.holds.result c.if-not-holds.true))
+    put_small all room (leb-false (length all) (length room) (sym c.holds.ensures ∙ c.if-not-holds.true))
 
 pub returns : goal.returns
 returns c =
@@ -21,5 +21,5 @@ returns c =
     let room = a.room.now in
     let p = c.put_lines-size in
     let all = listing_of a.judgement (listed a.judgement a.circles a.book.now) in
-    let fits = leb-true (length all) (length room) (sym c.holds.ensures ∙ not-false c.holds.result c.if-not-holds.false) in
+    let fits = leb-true (length all) (length room) (sym c.holds.ensures ∙ c.if-not-holds.false) in
     laid-put all room p.result p.result p.new.room p.ensures.0 (omega (arith, fits, p.ensures.0)) p.ensures

@@ -9,7 +9,7 @@ use Rattle.script.proofs.allows.Lts as lts
 use Rattle.script.proofs.allows.Goals as goal
 
 pub returns-then-form-lt2 : goal.returns-then-form-lt2
-returns-then-form-lt2 c = allows-short c.before.args.form.now c.before.args.letter (omega arith)
+returns-then-form-lt2 c = allows-short c.args.form.now c.args.letter (omega arith)
 
 pub returns : goal.returns
-returns c = allows-long c.before.before.before.args.form.now c.before.before.before.args.letter (omega arith)
+returns c = allows-long c.args.form.now c.args.letter (omega arith)

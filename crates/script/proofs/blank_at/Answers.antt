@@ -10,7 +10,7 @@ use Rattle.plan.proofs.is_blank.Reads as is-blank-reads
 use Rattle.script.proofs.blank_at.Goals as goal
 
 pub returns-then-line-at : goal.returns-then-line-at
-returns-then-line-at c = blank_none c.before.before.args.line.now c.before.before.args.at (omega arith)
+returns-then-line-at c = blank_none c.args.line.now c.args.at (omega arith)
 
 pub returns : goal.returns
-returns c = c.is_blank.ensures ∙ blank-some c.before.before.before.before.args.line.now c.before.before.before.before.args.at (omega arith)
+returns c = c.is_blank.ensures ∙ blank-some c.args.line.now c.args.at (omega arith)

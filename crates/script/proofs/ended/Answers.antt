@@ -10,7 +10,7 @@ use Rattle.script.proofs.past_blanks.Reads as past-blanks-reads
 use Rattle.script.proofs.ended.Goals as goal
 
 pub returns-then-line-next : goal.returns-then-line-next
-returns-then-line-next c = ended_by _ _ _ c.before.past_blanks-next.ensures (remark-none c.before.before.before.args.line.now c.before.past_blanks-next.result (omega arith))
+returns-then-line-next c = ended_by _ _ _ c.past_blanks-next.ensures (remark-none c.args.line.now c.past_blanks-next.result (omega arith))
 
 pub returns : goal.returns
-returns c = ended_by _ _ _ c.before.before.past_blanks-next.ensures (remark-some c.before.before.before.before.args.line.now c.before.before.past_blanks-next.result (omega arith))
+returns c = ended_by _ _ _ c.past_blanks-next.ensures (remark-some c.args.line.now c.past_blanks-next.result (omega arith))

@@ -6,7 +6,6 @@ use Rattle.script.proofs.first_line.Lts as lts
 use Rattle.script.proofs.line_for.Reads as line-for-reads
 use Rattle.script.proofs.first_line.Goals as goal
 
--- src/lib.rt:601:5
 pub line_for-requires : goal.line_for-requires
 unfolding table
 line_for-requires c = refl

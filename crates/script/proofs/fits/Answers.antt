@@ -16,13 +16,13 @@ pub loop-i-init : goal.loop-i-init
 loop-i-init c = (omega arith, omega arith, refl)
 
 pub returns-then-not-is_own : goal.returns-then-not-is_own
-returns-then-not-is_own c = sym (c.before.before.before.before.loop-i.invariant.2 ∙ fits_not c.before.before.before.before.before.before.before.args.form.now c.before.before.before.before.before.before.before.args.fields.now c.before.before.before.before.loop-i.i c.before.before.before.before.loop-i.n (omega arith) (sym c.before.is_own.ensures ∙ on-not c.before.is_own.result c.if-not-is_own.true))
+returns-then-not-is_own c = sym (c.loop-i.invariant.2 ∙ fits_not c.args.form.now c.args.fields.now c.loop-i.i c.loop-i.n (omega arith) (sym c.is_own.ensures ∙ c.if-not-is_own.true))
 
 pub overflow_add-n : goal.overflow_add-n
-overflow_add-n c = let t = takes-le (get_or c.before.before.before.before.before.before.before.before.args.form.now c.before.before.before.before.before.loop-i.i 0) in omega (arith, c.takes-n.ensures)
+overflow_add-n c = let t = takes-le (get_or c.args.form.now c.loop-i.i 0) in omega (arith, c.takes-n.ensures)
 
 pub loop-i-preserved : goal.loop-i-preserved
-loop-i-preserved c = let t = takes-le (get_or c.before.before.before.before.before.before.before.before.args.form.now c.before.before.before.before.before.loop-i.i 0) in (omega (arith, c.takes-n.ensures), omega arith, c.before.before.before.before.before.loop-i.invariant.2 ∙ fits_more c.before.before.before.before.before.before.before.before.args.form.now c.before.before.before.before.before.before.before.before.args.fields.now c.before.before.before.before.before.loop-i.i c.before.before.before.before.before.loop-i.n (omega arith) c.takes-n.result c.takes-n.ensures (sym c.before.before.is_own.ensures ∙ off-not c.before.before.is_own.result c.before.if-not-is_own.false))
+loop-i-preserved c = let t = takes-le (get_or c.args.form.now c.loop-i.i 0) in (omega (arith, c.takes-n.ensures), omega arith, c.loop-i.invariant.2 ∙ fits_more c.args.form.now c.args.fields.now c.loop-i.i c.loop-i.n (omega arith) c.takes-n.result c.takes-n.ensures (sym c.is_own.ensures ∙ c.if-not-is_own.false))
 
 pub returns : goal.returns
-returns c = sym (c.before.loop-i.invariant.2 ∙ fits-none c.before.before.before.before.args.form.now c.before.before.before.before.args.fields.now c.before.loop-i.i c.before.loop-i.n (omega arith))
+returns c = sym (c.loop-i.invariant.2 ∙ fits-none c.args.form.now c.args.fields.now c.loop-i.i c.loop-i.n (omega arith))

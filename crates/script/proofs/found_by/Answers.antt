@@ -13,34 +13,26 @@ use Rattle.script.proofs.sign_of.Reads as sign-of-reads
 use Rattle.script.proofs.stands_at.Reads as stands-at-reads
 use Rattle.script.proofs.found_by.Goals as goal
 
--- src/lib.rt:332:17
 pub returns-then-not-blank_at : goal.returns-then-not-blank_at
-returns-then-not-blank_at c = blank-missing c.before.before.before.before.before.before.args.b (drop c.before.before.before.before.before.before.args.at c.before.before.before.before.before.before.args.line.now) (sym c.before.blank_at.ensures ∙ on-not c.before.blank_at.result c.if-not-blank_at.true) ∙ found_by_sign _ _ _ c.before.before.before.before.sign_of-sign.ensures c.before.before.enum_told-in-Blank-1.given.1 (drop c.before.before.before.before.before.before.args.at c.before.before.before.before.before.before.args.line.now)
+returns-then-not-blank_at c = blank-missing c.args.b (drop c.args.at c.args.line.now) (sym c.blank_at.ensures ∙ c.if-not-blank_at.true) ∙ found_by_sign _ _ _ c.sign_of-sign.ensures c.in-Blank.is (drop c.args.at c.args.line.now)
 
--- src/lib.rt:339:17
 pub returns-then-not-stands_at : goal.returns-then-not-stands_at
-returns-then-not-stands_at c = letter-missing c.before.before.before.before.before.before.args.b (drop c.before.before.before.before.before.before.args.at c.before.before.before.before.before.before.args.line.now) (sym c.before.stands_at.ensures ∙ on-not c.before.stands_at.result c.if-not-stands_at.true) ∙ found_by_sign _ _ _ c.before.before.before.before.sign_of-sign.ensures c.before.before.enum_told-in-Letter-1.given.1 (drop c.before.before.before.before.before.before.args.at c.before.before.before.before.before.before.args.line.now)
+returns-then-not-stands_at c = letter-missing c.args.b (drop c.args.at c.args.line.now) (sym c.stands_at.ensures ∙ c.if-not-stands_at.true) ∙ found_by_sign _ _ _ c.sign_of-sign.ensures c.in-Letter.is (drop c.args.at c.args.line.now)
 
--- src/lib.rt:341:25
 pub overflow_add-next : goal.overflow_add-next
-overflow_add-next c = omega (arith, first-inside _ c.before.before.before.before.before.before.args.line.now c.before.before.before.before.before.before.args.at (sym c.before.stands_at.ensures ∙ off-not c.before.stands_at.result c.if-not-stands_at.false))
+overflow_add-next c = omega (arith, first-inside _ c.args.line.now c.args.at (sym c.stands_at.ensures ∙ c.if-not-stands_at.false))
 
--- src/lib.rt:323:1
 pub returns-in-Fixed : goal.returns-in-Fixed
-returns-in-Fixed c = found_by_sign _ _ _ c.before.before.before.sign_of-sign.ensures c.before.sign-1.given.1 (drop c.before.before.before.before.before.args.at c.before.before.before.before.before.args.line.now)
+returns-in-Fixed c = found_by_sign _ _ _ c.sign_of-sign.ensures c.in-Fixed.is (drop c.args.at c.args.line.now)
 
--- src/lib.rt:323:1
 pub returns-in-Number : goal.returns-in-Number
-returns-in-Number c = c.numeral.ensures ∙ found_by_sign _ _ _ c.before.before.before.sign_of-sign.ensures c.before.enum_told-1.given.1 (drop c.before.before.before.before.before.args.at c.before.before.before.before.before.args.line.now)
+returns-in-Number c = c.numeral.ensures ∙ found_by_sign _ _ _ c.sign_of-sign.ensures c.in-Number.is (drop c.args.at c.args.line.now)
 
--- src/lib.rt:323:1
 pub returns-else-not-blank_at : goal.returns-else-not-blank_at
-returns-else-not-blank_at c = blank-found c.before.before.before.before.before.before.before.args.b (drop c.before.before.before.before.before.before.before.args.at c.before.before.before.before.before.before.before.args.line.now) _ (sym c.before.before.blank_at.ensures ∙ off-not c.before.before.blank_at.result c.before.if-not-blank_at.false) c.past_blanks-next.ensures ∙ found_by_sign _ _ _ c.before.before.before.before.before.sign_of-sign.ensures c.before.before.before.enum_told-in-Blank-1.given.1 (drop c.before.before.before.before.before.before.before.args.at c.before.before.before.before.before.before.before.args.line.now)
+returns-else-not-blank_at c = blank-found c.args.b (drop c.args.at c.args.line.now) _ (sym c.blank_at.ensures ∙ c.if-not-blank_at.false) c.past_blanks-next.ensures ∙ found_by_sign _ _ _ c.sign_of-sign.ensures c.in-Blank.is (drop c.args.at c.args.line.now)
 
--- src/lib.rt:323:1
 pub returns-else-not-stands_at : goal.returns-else-not-stands_at
-returns-else-not-stands_at c = letter-found _ c.before.before.before.before.before.before.args.line.now c.before.before.before.before.before.before.args.at (sym c.before.stands_at.ensures ∙ off-not c.before.stands_at.result c.if-not-stands_at.false) ∙ found_by_sign _ _ _ c.before.before.before.before.sign_of-sign.ensures c.before.before.enum_told-in-Letter-1.given.1 (drop c.before.before.before.before.before.before.args.at c.before.before.before.before.before.before.args.line.now)
+returns-else-not-stands_at c = letter-found _ c.args.line.now c.args.at (sym c.stands_at.ensures ∙ c.if-not-stands_at.false) ∙ found_by_sign _ _ _ c.sign_of-sign.ensures c.in-Letter.is (drop c.args.at c.args.line.now)
 
--- src/lib.rt:323:1
 pub returns-in-Nothing : goal.returns-in-Nothing
-returns-in-Nothing c = found_by_sign _ _ _ c.before.before.sign_of-sign.ensures c.enum_told-in-Nothing-1.given.1 (drop c.before.before.before.before.args.at c.before.before.before.before.args.line.now)
+returns-in-Nothing c = found_by_sign _ _ _ c.sign_of-sign.ensures c.in-Nothing.is (drop c.args.at c.args.line.now)

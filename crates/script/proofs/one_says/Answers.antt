@@ -11,14 +11,27 @@ use Rattle.script.proofs.allows.Reads as allows-reads
 use Rattle.script.proofs.said_by.Reads as said-by-reads
 use Rattle.script.proofs.one_says.Goals as goal
 
--- src/lib.rt:394:9
 pub returns-then-not-allows : goal.returns-then-not-allows
-returns-then-not-allows c = (one-not _ _ (drop c.before.before.before.before.before.args.start c.before.before.before.before.before.args.line.now) (take c.before.before.before.before.before.args.from c.before.before.before.before.before.args.room.now) (sym c.before.allows.ensures ∙ on-not c.before.allows.result c.if-not-allows.true), refl)
+returns-then-not-allows c = record {
+  room_after = one-not _ _ (drop c.args.start c.args.line.now) (take c.args.from c.args.room.now) (sym c.allows.ensures ∙ c.if-not-allows.true);
+  room_unchanged = refl;
+}
 
--- src/lib.rt:398:9
 pub returns-in_default : goal.returns-in_default
-returns-in_default c = let a = c.before.before.before.before.before.before.before.before.before.before.before.args in (one-another a.form.now a.letter (drop a.start a.line.now) (take a.from a.room.now) (sym c.before.before.before.before.before.before.before.allows.ensures ∙ off-not c.before.before.before.before.before.before.before.allows.result c.before.before.before.before.before.before.if-not-allows.false) (sym (ap (λ (x : Said). said_in x c.before.before.before.before.said_by-said.new.1.1.1.0) c.enum_told-1.given.1) ∙ c.before.before.before.before.said_by-said.ensures.0), c.before.before.before.before.said_by-said.ensures.1)
+returns-in_default c =
+    let a = c.args in
+    let p = c.said_by-said in record {
+      room_after = one-another a.form.now a.letter (drop a.start a.line.now) (take a.from a.room.now) (sym c.allows.ensures ∙ c.if-not-allows.false)
+          (sym (ap (λ (x : Said). said_in x p.new.room) c.in_default.is) ∙ p.ensures.room_after);
+      room_unchanged = p.ensures.room_unchanged;
+    }
 
--- src/lib.rt:388:1
 pub returns : goal.returns
-returns c = let a = c.before.before.before.before.before.before.before.before.before.before.before.before.before.args in (one-fields a.form.now a.letter (drop a.start a.line.now) (take a.from a.room.now) (take c.before.before.said-1.given.0.0 c.before.before.before.before.before.before.said_by-said.new.1.1.1.0) c.allows-loose.result (sym c.before.before.before.before.before.before.before.before.before.allows.ensures ∙ off-not c.before.before.before.before.before.before.before.before.before.allows.result c.before.before.before.before.before.before.before.before.if-not-allows.false) (sym (ap (λ (x : Said). said_in x c.before.before.before.before.before.before.said_by-said.new.1.1.1.0) c.before.before.said-1.given.1) ∙ c.before.before.before.before.before.before.said_by-said.ensures.0) c.allows-loose.ensures, c.before.before.before.before.before.before.said_by-said.ensures.1)
+returns c =
+    let a = c.args in
+    let p = c.said_by-said in
+    let said = c.in-Fields in record {
+      room_after = one-fields a.form.now a.letter (drop a.start a.line.now) (take a.from a.room.now) (take said.n p.new.room) c.allows-loose.result (sym c.allows.ensures ∙ c.if-not-allows.false)
+          (sym (ap (λ (x : Said). said_in x p.new.room) said.is) ∙ p.ensures.room_after) c.allows-loose.ensures;
+      room_unchanged = p.ensures.room_unchanged;
+    }

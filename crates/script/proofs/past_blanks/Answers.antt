@@ -14,14 +14,11 @@ use Rattle.script.proofs.past_blanks.Lts as lts
 use Rattle.plan.proofs.past_blanks.Reads as past-blanks-reads
 use Rattle.script.proofs.past_blanks.Goals as goal
 
--- src/lib.rt:269:9
 pub returns-then-line-at : goal.returns-then-line-at
-returns-then-line-at c = sym (past_end true c.before.before.args.line.now c.before.before.args.at (omega arith))
+returns-then-line-at c = sym (past_end true c.args.line.now c.args.at (omega arith))
 
--- src/lib.rt:272:5
 pub overflow_sub-result : goal.overflow_sub-result
-overflow_sub-result c = let s = c.before.before.before.before.args.line.now in let at = c.before.before.before.before.args.at in omega (arith, ap length c.past_blanks-rest.ensures, ap (λ (t : List ℕ). length (past_blanks true t)) (drop-whole s at), past-le true (drop at s), length-drop at s)
+overflow_sub-result c = let s = c.args.line.now in let at = c.args.at in omega (arith, ap length c.past_blanks-rest.ensures, ap (λ (t : List ℕ). length (past_blanks true t)) (drop-whole s at), past-le true (drop at s), length-drop at s)
 
--- src/lib.rt:265:1
 pub returns : goal.returns
-returns c = let s = c.before.before.before.before.args.line.now in let at = c.before.before.before.before.args.at in past-place s c.past_blanks-rest.result.now at (omega arith) (c.past_blanks-rest.ensures ∙ ap (past_blanks true) (drop-whole s at))
+returns c = let s = c.args.line.now in let at = c.args.at in past-place s c.past_blanks-rest.result.now at (omega arith) (c.past_blanks-rest.ensures ∙ ap (past_blanks true) (drop-whole s at))

@@ -21,16 +21,16 @@ use Rattle.script.proofs.with_piece.Reads as with-piece-reads
 use Rattle.script.proofs.shown_by.Goals as goal
 
 pub loop-i-init : goal.loop-i-init
-loop-i-init c = (omega arith, omega arith, omega arith, ap (λ (t : List ℕ). with_all t (shown c.before.before.before.args.form.now c.before.before.before.args.fields.now ++ line_feed)) (sym c.empty-text.ensures))
+loop-i-init c = (omega arith, omega arith, omega arith, ap (λ (t : List ℕ). with_all t (shown c.args.form.now c.args.fields.now ++ line_feed)) (sym c.empty-text.ensures))
 
 pub overflow_add-n : goal.overflow_add-n
-overflow_add-n c = let t = takes-le (get_or c.before.before.before.before.before.before.before.before.before.args.form.now c.before.before.before.before.before.loop-i.i 0) in omega (arith, c.takes-n.ensures)
+overflow_add-n c = let t = takes-le (get_or c.args.form.now c.loop-i.i 0) in omega (arith, c.takes-n.ensures)
 
 pub loop-i-preserved : goal.loop-i-preserved
 loop-i-preserved c =
-    let form = c.before.before.before.before.before.before.before.before.before.args.form.now in
-    let fs = c.before.before.before.before.before.before.before.before.before.args.fields.now in
-    let l = c.before.before.before.before.before.loop-i in
+    let form = c.args.form.now in
+    let fs = c.args.fields.now in
+    let l = c.loop-i in
     let t = takes-le (get_or form l.i 0) in
     let n = count-more form fs l.i l.n (omega arith) c.takes-n.result c.takes-n.ensures in (
       omega (arith, c.takes-n.ensures),
@@ -39,15 +39,15 @@ loop-i-preserved c =
       l.invariant.3
           ∙ shown-more form fs l.i l.n (omega arith) c.takes-n.result (text_of l.text) c.takes-n.ensures
           ∙ ap (λ (u : List ℕ). with_all u (shown (drop (l.i + 1) form) (drop (l.n + c.takes-n.result) fs) ++ line_feed))
-          (ap (λ (v : ℕ). with_all (text_of l.text) (piece_of (get_or form l.i 0) v)) (sym c.before.before.field-v.ensures) ∙ sym c.before.with_piece-longer.ensures),
+          (ap (λ (v : ℕ). with_all (text_of l.text) (piece_of (get_or form l.i 0) v)) (sym c.field-v.ensures) ∙ sym c.with_piece-longer.ensures),
     )
 
 pub returns : goal.returns
 returns c =
-    let form = c.before.before.before.before.before.before.before.args.form.now in
-    let fs = c.before.before.before.before.before.before.before.args.fields.now in
-    let l = c.before.before.before.loop-i in
-    let n = count_none form fs l.i l.n (omega arith) in (
-      c.before.end-whole.ensures ∙ sym (l.invariant.3 ∙ ap (λ (u : List ℕ). with_all (text_of l.text) (u ++ line_feed)) (shown-none form fs l.i l.n (omega arith))),
-      (omega (arith, l.invariant.2, n), c.allows-loose.ensures),
-    )
+    let form = c.args.form.now in
+    let fs = c.args.fields.now in
+    let l = c.loop-i in
+    let n = count_none form fs l.i l.n (omega arith) in record {
+      text_value = c.end-whole.ensures ∙ sym (l.invariant.3 ∙ ap (λ (u : List ℕ). with_all (text_of l.text) (u ++ line_feed)) (shown-none form fs l.i l.n (omega arith)));
+      fields_value = (omega (arith, l.invariant.2, n), c.allows-loose.ensures);
+    }

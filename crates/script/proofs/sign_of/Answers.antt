@@ -6,19 +6,19 @@ use Rattle.script.proofs.sign_of.Lts as lts
 use Rattle.script.proofs.sign_of.Goals as goal
 
 pub returns-then-b-eq35 : goal.returns-then-b-eq35
-returns-then-b-eq35 c = sign-number c.before.args.b c.if-b-eq35.true
+returns-then-b-eq35 c = sign-number c.args.b c.if-b-eq35.true
 
 pub returns-then-b-eq32 : goal.returns-then-b-eq32
-returns-then-b-eq32 c = sign-blank c.before.before.args.b c.before.if-b-eq35.false c.if-b-eq32.true
+returns-then-b-eq32 c = sign-blank c.args.b c.if-b-eq35.false c.if-b-eq32.true
 
 pub overflow_sub-result : goal.overflow_sub-result
-overflow_sub-result c = omega (arith, both48 c.before.before.before.args.b c.if-b.true)
+overflow_sub-result c = omega (arith, both48 c.args.b c.if-b.true)
 
 pub returns-then-b : goal.returns-then-b
-returns-then-b c = sign-fixed _ c.before.before.if-b-eq35.false c.before.if-b-eq32.false c.if-b.true
+returns-then-b c = sign-fixed _ c.if-b-eq35.false c.if-b-eq32.false c.if-b.true
 
 pub returns-then-b-2 : goal.returns-then-b-2
-returns-then-b-2 c = sign-letter _ c.before.before.before.if-b-eq35.false c.before.before.if-b-eq32.false c.before.if-b.false c.if-b-2.true
+returns-then-b-2 c = sign-letter _ c.if-b-eq35.false c.if-b-eq32.false c.if-b.false c.if-b-2.true
 
 pub returns : goal.returns
-returns c = sign-nothing _ c.before.before.before.if-b-eq35.false c.before.before.if-b-eq32.false c.before.if-b.false c.if-b-2.false
+returns c = sign-nothing _ c.if-b-eq35.false c.if-b-eq32.false c.if-b.false c.if-b-2.false

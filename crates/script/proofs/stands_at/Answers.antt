@@ -9,7 +9,7 @@ use Rattle.script.proofs.stands_at.Lts as lts
 use Rattle.script.proofs.stands_at.Goals as goal
 
 pub returns-then-line-at : goal.returns-then-line-at
-returns-then-line-at c = first-none c.before.args.line.now c.before.args.at _ (omega arith)
+returns-then-line-at c = first-none c.args.line.now c.args.at _ (omega arith)
 
 pub returns : goal.returns
-returns c = first_some c.before.before.args.line.now c.before.before.args.at _ (omega arith)
+returns c = first_some c.args.line.now c.args.at _ (omega arith)

@@ -14,16 +14,16 @@ use Rattle.script.proofs.sign_of.Reads as sign-of-reads
 use Rattle.script.proofs.with_piece.Goals as goal
 
 pub returns-in-Fixed : goal.returns-in-Fixed
-returns-in-Fixed c = sym (all_none _) ∙ ap (with_all (text_of c.before.before.before.args.text)) (piece-as _ _ _ c.before.before.sign_of-sign.ensures c.enum_told-1.given.1 _)
+returns-in-Fixed c = sym (all_none _) ∙ ap (with_all (text_of c.args.text)) (piece-as _ _ _ c.sign_of-sign.ensures c.in-Fixed.is _)
 
 pub returns-in-Number : goal.returns-in-Number
-returns-in-Number c = c.number.ensures ∙ ap (with_all (text_of c.before.before.before.before.args.text)) (piece-as _ _ _ c.before.before.before.sign_of-sign.ensures c.before.enum_told-in-Number-1.given.1 _)
+returns-in-Number c = c.number.ensures ∙ ap (with_all (text_of c.args.text)) (piece-as _ _ _ c.sign_of-sign.ensures c.in-Number.is _)
 
 pub returns-in-Blank : goal.returns-in-Blank
-returns-in-Blank c = c.byte.ensures ∙ sym (all_one _ _) ∙ ap (with_all (text_of c.before.before.before.before.args.text)) (piece-as _ _ _ c.before.before.before.sign_of-sign.ensures c.before.enum_told-in-Blank-1.given.1 c.before.before.before.before.args.v)
+returns-in-Blank c = c.byte.ensures ∙ sym (all_one _ _) ∙ ap (with_all (text_of c.args.text)) (piece-as _ _ _ c.sign_of-sign.ensures c.in-Blank.is c.args.v)
 
 pub returns-in-Letter : goal.returns-in-Letter
-returns-in-Letter c = c.byte-in-Letter.ensures ∙ sym (all_one _ _) ∙ ap (with_all (text_of c.before.before.before.before.args.text)) (piece-as _ _ _ c.before.before.before.sign_of-sign.ensures c.before.enum_told-in-Letter-1.given.1 c.before.before.before.before.args.v)
+returns-in-Letter c = c.byte-in-Letter.ensures ∙ sym (all_one _ _) ∙ ap (with_all (text_of c.args.text)) (piece-as _ _ _ c.sign_of-sign.ensures c.in-Letter.is c.args.v)
 
 pub returns-in-Nothing : goal.returns-in-Nothing
-returns-in-Nothing c = sym (all_none _) ∙ ap (with_all (text_of c.before.before.before.args.text)) (piece-as _ _ _ c.before.before.sign_of-sign.ensures c.enum_told-in-Nothing-1.given.1 c.before.before.before.args.v)
+returns-in-Nothing c = sym (all_none _) ∙ ap (with_all (text_of c.args.text)) (piece-as _ _ _ c.sign_of-sign.ensures c.in-Nothing.is c.args.v)

@@ -8,42 +8,32 @@ use Rattle.script.proofs.Due.at.Reads as at_reads
 use Rattle.script.proofs.Due.counted.Reads as counted-reads
 use Rattle.script.proofs.Due.after.Goals as goal
 
--- src/lib.rt:221:13
 pub returns-then-loose : goal.returns-then-loose
-returns-then-loose c = c.at.ensures ∙ after-loose _ _ _ c.before.if-loose.true
+returns-then-loose c = c.at.ensures ∙ after-loose _ _ _ c.if-loose.true
 
--- src/lib.rt:217:5
 pub returns-in-Edition : goal.returns-in-Edition
-returns-in-Edition c = edition-due _ c.before.before.before.before.args.first c.named.ensures ∙ after-stage _ _ c.before.before.before.before.args.first _ c.before.before.before.if-loose.false c.before.enum_told-1.given.1
+returns-in-Edition c = edition-due _ c.args.first c.named.ensures ∙ after-stage _ _ c.args.first _ c.if-loose.false c.in-Edition.is
 
--- src/lib.rt:217:5
 pub returns-in-Sagas : goal.returns-in-Sagas
-returns-in-Sagas c = c.counted.ensures ∙ after-stage _ _ c.before.before.before.before.args.first _ c.before.before.before.if-loose.false c.before.enum_told-in-Sagas-1.given.1
+returns-in-Sagas c = c.counted.ensures ∙ after-stage _ _ c.args.first _ c.if-loose.false c.in-Sagas.is
 
--- src/lib.rt:217:5
 pub returns-in-Steps : goal.returns-in-Steps
-returns-in-Steps c = c.counted-in-Steps.ensures ∙ after-stage _ _ c.before.before.before.before.args.first _ c.before.before.before.if-loose.false c.before.enum_told-in-Steps-1.given.1
+returns-in-Steps c = c.counted-in-Steps.ensures ∙ after-stage _ _ c.args.first _ c.if-loose.false c.in-Steps.is
 
--- src/lib.rt:217:5
 pub returns-in-Plain : goal.returns-in-Plain
-returns-in-Plain c = c.at-in-Plain.ensures ∙ after-stage _ _ c.before.before.before.before.args.first _ c.before.before.before.if-loose.false c.before.enum_told-in-Plain-1.given.1
+returns-in-Plain c = c.at-in-Plain.ensures ∙ after-stage _ _ c.args.first _ c.if-loose.false c.in-Plain.is
 
--- src/lib.rt:217:5
 pub returns-in-Objects : goal.returns-in-Objects
-returns-in-Objects c = c.at-in-Objects.ensures ∙ after-stage _ _ c.before.before.before.before.args.first _ c.before.before.before.if-loose.false c.before.enum_told-in-Objects-1.given.1
+returns-in-Objects c = c.at-in-Objects.ensures ∙ after-stage _ _ c.args.first _ c.if-loose.false c.in-Objects.is
 
--- src/lib.rt:217:5
 pub returns-in-Dependencies : goal.returns-in-Dependencies
-returns-in-Dependencies c = c.counted-in-Dependencies.ensures ∙ after-stage _ _ c.before.before.before.before.args.first _ c.before.before.before.if-loose.false c.before.enum_told-in-Dependencies-1.given.1
+returns-in-Dependencies c = c.counted-in-Dependencies.ensures ∙ after-stage _ _ c.args.first _ c.if-loose.false c.in-Dependencies.is
 
--- src/lib.rt:217:5
 pub returns-in-Entries : goal.returns-in-Entries
-returns-in-Entries c = c.counted-in-Entries.ensures ∙ after-stage _ _ c.before.before.before.before.args.first _ c.before.before.before.if-loose.false c.before.enum_told-in-Entries-1.given.1
+returns-in-Entries c = c.counted-in-Entries.ensures ∙ after-stage _ _ c.args.first _ c.if-loose.false c.in-Entries.is
 
--- src/lib.rt:217:5
 pub returns-in-Events : goal.returns-in-Events
-returns-in-Events c = c.at-in-Events.ensures ∙ after-stage _ _ c.before.before.before.before.args.first _ c.before.before.before.if-loose.false c.before.enum_told-in-Events-1.given.1
+returns-in-Events c = c.at-in-Events.ensures ∙ after-stage _ _ c.args.first _ c.if-loose.false c.in-Events.is
 
--- src/lib.rt:217:5
 pub returns-in-Loose : goal.returns-in-Loose
-returns-in-Loose c = c.at-in-Loose.ensures ∙ after-stage _ _ c.before.before.before.before.args.first _ c.before.before.before.if-loose.false c.before.enum_told-in-Loose-1.given.1
+returns-in-Loose c = c.at-in-Loose.ensures ∙ after-stage _ _ c.args.first _ c.if-loose.false c.in-Loose.is

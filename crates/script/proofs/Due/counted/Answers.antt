@@ -7,10 +7,8 @@ use Rattle.script.proofs.Due.counted.Lts as lts
 use Rattle.script.proofs.Due.at.Reads as at_reads
 use Rattle.script.proofs.Due.counted.Goals as goal
 
--- src/lib.rt:197:13
 pub returns-then-lines-eq0 : goal.returns-then-lines-eq0
-returns-then-lines-eq0 c = c.at.ensures ∙ counted_none _ _ _ _ c.before.if-lines-eq0.true
+returns-then-lines-eq0 c = c.at.ensures ∙ counted_none _ _ _ _ c.if-lines-eq0.true
 
--- src/lib.rt:193:5
 pub returns : goal.returns
 returns c = counted-some _ _ _ _ c.if-lines-eq0.false
