@@ -1,39 +1,44 @@
 # shellcheck shell=bash
 # Programs for x86-64, which the proved library is code for: how they are compiled, linked and run on this machine. To be sourced.
-# On x86-64 the machine's own cc and rustc make them. On another processor the toolchain's compiler, linker, C library and emulator serve,
-# and Rust's library for x86-64 is that of the installed rustc, or else what link/fetch-x86 has fetched. Nothing is fetched from here.
+# The machine's own cc and rustc make them; where there is no cc, the toolchain's compiler, linker and C library serve.
 root=$(cd "$(dirname "${BASH_SOURCE[0]}")/.." && pwd) || exit 2
 if ! command -v rt >/dev/null; then
   echo "the Rattle toolchain (rt) is not on this machine" >&2
   exit 2
 fi
-machine=$(uname -m)
-home=${RATTLE_HOME:-$(dirname "$(dirname "$(readlink -f "$(command -v rt)")")")}
-tools=$home/on/$machine/toolchain
+home=$(dirname "$(dirname "$(readlink -f "$(command -v rt)")")")
+tools=$home/toolchain
 target=x86_64-unknown-linux-gnu
-[ "$machine" = x86_64 ] && command -v cc >/dev/null && by=machine || by=toolchain
+command -v cc >/dev/null && by=machine || by=toolchain
+
+# The folder of a static library's archive, and the archive.
+library_of() {
+  printf '%s\n' "$root/crates/$1/out"
+}
+
+archive_in() {
+  printf '%s\n' "$root/crates/$1/out/lib$1.a"
+}
 
 # Proves a static library and writes its archive.
 archive_of() {
   local said
-  if [ ! -f "$root/target/staticlib/lib$1.a" ]; then
+  if [ ! -f "$(archive_in "$1")" ]; then
     echo "$1 is proved and built first; this takes some minutes" >&2
   fi
-  if ! said=$(cd "$root" && rt staticlib "$1" 2>&1 </dev/null); then
+  if ! said=$(cd "$root/crates/$1" && rt lib 2>&1 </dev/null); then
     printf '%s\n' "$said" >&2
     return 1
   fi
 }
 
-# Runs a program with its words.
+# Runs a program that was linked here with its words.
 started() {
   if [ "$by" = machine ]; then
     "$@"
-    return
+  else
+    "$tools/lib/ld-linux-x86-64.so.2" --library-path "$tools/lib" "$@"
   fi
-  local emulator=$tools/bin/qemu-x86_64
-  [ -x "$emulator" ] || emulator=
-  ${emulator:+"$emulator"} "$tools/lib/ld-linux-x86-64.so.2" --library-path "$tools/lib" "$@"
 }
 
 # ---- C: a program from a source and an archive; an object from a source with more words for the compiler, which needs no archive
@@ -87,40 +92,23 @@ c_linked_by_toolchain() {
     "$tools/lib/libc.so.6" "$tools/lib/libc_nonshared.a" "$tools/lib/libgcc.a" "$tools/lib/crtendS.o" "$tools/lib/crtn.o"
 }
 
-# ---- Rust: which compiler, and a library or a program from a source with more words for the compiler; the edition is 2021 where none is set
-
-fetched=$root/target/x86
-rustc_fetched() {
-  local own=$machine-linux-gnu
-  LD_LIBRARY_PATH=$fetched/usr/lib/$own:$fetched/lib/$own "$fetched/usr/bin/rustc" --sysroot "$fetched/usr" "$@"
-}
+# ---- Rust: whether it is there, and a library or a program from a source with more words for the compiler; the edition is 2021 where none is set
 
 # Whether a rustc has Rust's library for x86-64.
-has_library() {
-  local libraries
-  libraries=$("$1" --print target-libdir --target $target 2>/dev/null) && compgen -G "$libraries/libstd-*.rlib" >/dev/null
-}
-
-# Sets `compiler`; fails where there is no Rust library for x86-64.
 find_rust() {
-  if has_library rustc; then
-    compiler=rustc
-  elif has_library rustc_fetched; then
-    compiler=rustc_fetched
-  else
-    return 1
-  fi
+  local libraries
+  libraries=$(rustc --print target-libdir --target $target 2>/dev/null) && compgen -G "$libraries/libstd-*.rlib" >/dev/null
 }
 
 # That there is none, and what to do about it.
 no_rust() {
-  echo "there is no Rust library for x86-64 on this machine; 'rustup target add $target' installs it, or link/fetch-x86 fetches it from the packages of Debian into target/x86, 400 MB, once"
+  echo "there is no rustc with a library for x86-64 on this machine; 'rustup target add $target' installs the library"
 }
 
 rust_compiled() {
   local out=$1 source=$2
   shift 2
-  $compiler --edition "${edition:-2021}" --target $target "$@" -o "$out" "$source"
+  rustc --edition "${edition:-2021}" --target $target "$@" -o "$out" "$source"
 }
 
 # The second program's library, for programs that name it with --extern.
@@ -134,7 +122,7 @@ second_library() {
 saga_library() {
   local out=$1
   shift
-  edition=2024 rust_compiled "$out" "$root/link/sagalib/src/lib.rs" --crate-type rlib --crate-name sagalib -L "native=$root/target/staticlib" "$@"
+  edition=2024 rust_compiled "$out" "$root/link/sagalib/src/lib.rs" --crate-type rlib --crate-name sagalib -L "native=$(library_of sagalib)" "$@"
 }
 
 rust_program() {

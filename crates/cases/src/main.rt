@@ -8,6 +8,8 @@
 // the program `recordmove` prints of them, or the number of the line that is not understood. 'd' is a book, mended into the room: its own, or the bytes written. 't' is a term: books one
 // after another, each behind its length in three bytes: a line for each that is refused by 23, and the figures. It stops at the end of the input or where that is torn. A case that was
 // not read gets no answer, and what was not read, written or understood is said on standard error.
+#![tactic(auto)]
+
 use book::Outcome;
 use input::Filled;
 use libc::{STDERR_FILENO, STDIN_FILENO, STDOUT_FILENO};

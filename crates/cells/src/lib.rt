@@ -1,5 +1,7 @@
 // Accepted operations in numbers that the caller lends: one number for each operation, looked at and changed where it stands. A number of any
 // value stands for an operation, so that no lent room can harm.
+#![tactic(auto)]
+
 ghost use Rattle.std.specs.Prelude.{◌≡◌, true, ◌&&◌, ℕ, ◌≤◌, ◌<◌, min, ltb};
 ghost use Rattle.ties.specs.Operations.{most_operations, ended_one, ended_ops, rewritten, all_held_by};
 ghost use Rattle.ties.specs.Ties.{dirty_at, dirty, must_wait};

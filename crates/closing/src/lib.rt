@@ -1,4 +1,6 @@
 // What a saga still owes, and the next thing to do about it.
+#![tactic(auto)]
+
 ghost use Rattle.std.specs.Prelude.{◌≡◌, not, ◌&&◌, ◌-◌, eqb};
 ghost use Rattle.laws.specs.Index.{highest, sum_to};
 ghost use Rattle.rules.specs.States.{is_committed, own};

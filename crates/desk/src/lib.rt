@@ -1,5 +1,7 @@
 // A desk: what a book's tables say and how everything stands after its events, in numbers that the caller lends. A program opens it on a book once, and then asks and takes
 // event after event without reading the book again. Numbers of any value are safe; what is promised is promised of a desk that stands for a reading.
+#![tactic(auto)]
+
 ghost use Rattle.std.specs.Prelude.{◌≡◌, true, List, [], ◌∷◌, ℕ, ◌≤◌, get_or};
 ghost use Rattle.laws.specs.Index.{one};
 ghost use Rattle.terms.specs.Refusals.{verdict_number};

@@ -2,6 +2,8 @@
 //
 // Each word is the name of a book. The table goes to standard output, and before it a line for each book that was refused. A book that was not read is not counted, nor is one
 // more than 1,000; that, and what was not written or understood, is said on standard error, and nothing else stands there.
+#![tactic(auto)]
+
 use input::Filled;
 use libc::{STDERR_FILENO, STDOUT_FILENO};
 use listing::{Put, Text};

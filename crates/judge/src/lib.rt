@@ -1,5 +1,7 @@
 // Judging one event of a book: accepted, or refused by the first line that holds. How everything stands is kept in numbers that the caller lends, and an
 // accepted event changes them where they stand.
+#![tactic(auto)]
+
 ghost use Rattle.std.specs.Prelude.{◌≡◌, false, not, ◌&&◌, ℕ, ◌<◌, min, ltb, eqb};
 ghost use Rattle.terms.specs.Limits.{most_objects};
 ghost use Rattle.terms.specs.declared.Event.TheVariants.{Begin, Commit, Abort, Operation as Invoke, Delegate, CommitOne, AbortOne, Spawn};

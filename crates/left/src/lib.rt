@@ -1,5 +1,7 @@
 // How much is left: the sum of what all sagas owe, as the board above the pass shows it. It is kept beside the lent numbers, and an event moves it by what the one
 // saga owes whose transaction begins or ends; the others are not looked at.
+#![tactic(auto)]
+
 ghost use Rattle.std.specs.Prelude.{◌≡◌, ◌-◌, min};
 ghost use Rattle.laws.specs.Index.{sum_to};
 ghost use Rattle.terms.specs.Limits.{most_transactions};

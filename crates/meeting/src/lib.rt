@@ -1,4 +1,6 @@
 // What the term meeting reads: the rows of the table of figures, in words.
+#![tactic(auto)]
+
 ghost use Rattle.std.specs.Prelude.{◌≡◌, []};
 ghost use Rattle.listing.specs.Texts.{text_of, with_all};
 ghost use Rattle.meeting.specs.Rows.{count_row, row_of, share_row};

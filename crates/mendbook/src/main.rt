@@ -11,17 +11,23 @@ use terms::{Book, Refusal};
 
 // Mending settles sagas, and nothing else.
 fn say_who_stays_open(rt: &impl Eprint) {
-    let _ = eprintln!(rt; "mendbook: transactions that belong to no move stay as they are, open ones too");
+    let _ = eprintln!(rt;
+        "mendbook: transactions that belong to no move stay as they are, open ones too"
+    );
 }
 
 // Nothing was wrong.
 fn say_own(rt: &impl Eprint, events: usize) {
-    let _ = eprintln!(rt; "mendbook: nothing was wrong, and the book is handed back as it was: events {events}");
+    let _ = eprintln!(rt;
+        "mendbook: nothing was wrong, and the book is handed back as it was: events {events}"
+    );
     say_who_stays_open(rt);
 }
 
 fn say_mended(rt: &impl Eprint, kept: usize, dropped: usize, added: usize) {
-    let _ = eprintln!(rt; "mendbook: mended: events kept {kept}, bytes dropped {dropped}, closing steps added {added}");
+    let _ = eprintln!(rt;
+        "mendbook: mended: events kept {kept}, bytes dropped {dropped}, closing steps added {added}"
+    );
     say_who_stays_open(rt);
 }
 
@@ -46,7 +52,9 @@ fn why(refusal: Refusal) -> &'static str {
 fn say_refused(rt: &impl Eprint, refusal: Refusal, kept: usize, place: usize) {
     let number = refusal.number();
     let why = why(refusal);
-    let _ = eprintln!(rt; "mendbook: refused by {number} at byte {place}, events kept {kept}, and nothing was written: {why}");
+    let _ = eprintln!(rt;
+        "mendbook: refused by {number} at byte {place}, events kept {kept}, and nothing was written: {why}"
+    );
 }
 
 // What is to be said of a book whose result was taken whole.

@@ -2,6 +2,8 @@
 //
 // It relies on the contracts of the crates below, and on the proofs of promises that docs/PROMISES.md names; on no other law of theirs.
 // .ci/relies holds it to that.
+#![tactic(auto)]
+
 ghost use Rattle.std.specs.Prelude.{◌≡◌, [], get_or};
 ghost use Rattle.listing.specs.Texts.{text_of, with_all};
 ghost use Rattle.moves.specs.Moves.{saga_committed, word_for, part_by, part_of, todo_by, todo_for};

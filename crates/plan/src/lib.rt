@@ -1,4 +1,6 @@
 // The plan of a record move: moves with their named steps, and class lists that each belong to a move.
+#![tactic(auto)]
+
 ghost use Rattle.std.specs.Prelude.{◌≡◌, ◌+◌, ◌-◌, ◌≤◌, length, take, drop};
 ghost use Rattle.plan.specs.Names.{index, end_at, begin_at, name_at, move_name, step_name, list_name};
 ghost use Rattle.plan.specs.Verdict.{refusal_number, plan_number, too_many_steps, long_name, no_such_move, plan_verdict};

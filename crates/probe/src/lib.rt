@@ -1,5 +1,7 @@
 // A caller of the judge as a till program is one, and of the sum as the program of a board is one: it lends its sheet and its state, and asks for one event to be
 // taken. bench/stack runs it to see how much stack that takes beyond the numbers lent, bench/board how much longer an event takes with the sum.
+#![tactic(auto)]
+
 ghost use Rattle.std.specs.Prelude.{◌≡◌, get_or};
 ghost use Rattle.terms.specs.Refusals.{verdict_number};
 ghost use Rattle.tables.specs.declared.Tables.{Tables};

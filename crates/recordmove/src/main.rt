@@ -46,10 +46,7 @@ fn tell(rt: &(impl Input + Print + Eprint), plan: &[u8]) -> ExitCode {
 }
 
 // Reads the plan, and then the rest. One byte more than a plan may have is enough, too.
-fn tell_from(
-    rt: &(impl Input + Print + Eprint),
-    mut file: impl Read + Drop,
-) -> ExitCode {
+fn tell_from(rt: &(impl Input + Print + Eprint), mut file: impl Read + Drop) -> ExitCode {
     let mut text = [0u8; 65537];
     let filled = input::fill(&mut file, &mut text);
     drop(file);

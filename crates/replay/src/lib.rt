@@ -1,4 +1,6 @@
 // An order in which the committed changes can be replayed, one transaction at a time.
+#![tactic(auto)]
+
 ghost use Rattle.std.specs.Prelude.{◌≡◌, ◌&&◌, ◌++◌, ℕ, ◌≤◌, ltb, length, take, drop};
 ghost use Rattle.laws.specs.Index.{any_below};
 ghost use Rattle.terms.specs.Limits.{most_transactions};

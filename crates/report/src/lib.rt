@@ -1,4 +1,6 @@
 // How a state stands as a whole: who is active, and who stands before whom.
+#![tactic(auto)]
+
 ghost use Rattle.std.specs.Prelude.{◌≡◌};
 ghost use Rattle.laws.specs.Index.{tabulate};
 ghost use Rattle.terms.specs.Limits.{most_transactions};

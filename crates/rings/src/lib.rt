@@ -1,4 +1,6 @@
 // Who is on a ring, for the commit of a transaction: passes over the operations, with sets of objects and of transactions alone.
+#![tactic(auto)]
+
 ghost use Rattle.std.specs.Prelude.{◌≡◌, cond, ◌≤◌};
 ghost use Rattle.sets.specs.Sets.{inserted};
 ghost use Rattle.ties.specs.Operations.{most_operations};

@@ -1,5 +1,7 @@
 // Whether an event would put an undo on a ring: the order of the transactions as one row of bits for each, made in one sweep over the
 // operations, and searched in both directions.
+#![tactic(auto)]
+
 ghost use Rattle.std.specs.Prelude.{◌≡◌, true, cond, ◌↔◌, ℕ, ◌≤◌, ◌<◌};
 ghost use Rattle.terms.specs.Events.{is_write};
 ghost use Rattle.sets.specs.Sets.{mem, inserted};

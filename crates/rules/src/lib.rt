@@ -1,5 +1,7 @@
 // How transactions and everything else stand; transactions in numbers that the caller lends, one number for each; and what the saga rules and the declared
 // dependencies forbid. A number of any value stands for a transaction, so that no lent room can harm.
+#![tactic(auto)]
+
 ghost use Rattle.std.specs.Prelude.{◌≡◌, ◌≤◌, ◌<◌, length};
 ghost use Rattle.laws.specs.Index.{any_below};
 ghost use Rattle.terms.specs.Limits.{most_transactions};

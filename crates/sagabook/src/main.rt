@@ -175,7 +175,9 @@ fn main(rt: HostRuntime) -> ExitCode {
     match asked_for(&rt) {
         Asked::For(wish) => tell(&rt, wish),
         Asked::Unknown => {
-            let _ = eprintln!(rt; "usage: sagabook [permit-circles | first-refusal | replay] < BOOK");
+            let _ = eprintln!(rt;
+                "usage: sagabook [permit-circles | first-refusal | replay] < BOOK"
+            );
             ExitCode::SUCCESS
         }
     }

@@ -8,6 +8,8 @@
 //
 // The functions whose names begin with saga_lent go by a desk: several arrays of numbers that the caller lends, and that stand for a book and the events taken behind it. Numbers of
 // any value are safe there; what is promised is promised of a desk that saga_lent_open left and that only saga_lent_take has changed.
+#![tactic(auto)]
+
 ghost use Rattle.std.specs.Prelude.{◌≡◌, List, ℕ, length};
 ghost use Rattle.tables.specs.Reading.{edition_of};
 ghost use Rattle.left.specs.Left.{left_in};

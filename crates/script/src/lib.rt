@@ -1,4 +1,6 @@
 // A book as text, a line for each thing that stands in it, in words; and the fields that such a text says.
+#![tactic(auto)]
+
 ghost use Rattle.std.specs.Prelude.{◌≡◌, true, [], ◌++◌, ◌+◌, ◌≤◌, length, take, drop, get_or};
 ghost use Rattle.plan.specs.Lines.{past_blanks};
 ghost use Rattle.listing.specs.Words.{line_feed};

@@ -1,4 +1,6 @@
 // A set of transactions is held as the bits of one number: bit t is 1 when t is in the set.
+#![tactic(auto)]
+
 ghost use Rattle.std.specs.Prelude.{◌≡◌};
 ghost use Rattle.laws.specs.Index.{count_below, first_below};
 ghost use Rattle.terms.specs.Limits.{most_transactions};

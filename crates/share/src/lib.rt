@@ -1,4 +1,6 @@
 // A share of a whole as two whole numbers brought to lowest terms.
+#![tactic(auto)]
+
 ghost use Rattle.std.specs.Prelude.{◌≡◌};
 ghost use Rattle.share.specs.Shares.{common_divisor, lowest};
 

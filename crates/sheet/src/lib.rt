@@ -1,5 +1,7 @@
 // What a book's tables say, in numbers that are made once for a book and lent to the judge: the sort of every transaction, the declared
 // dependencies, and how many there are of each kind. Numbers of any value have a meaning.
+#![tactic(auto)]
+
 ghost use Rattle.std.specs.Prelude.{◌≡◌, cond, min, ℕ, ◌≤◌, ◌<◌, ltb, length, get_or};
 ghost use Rattle.terms.specs.Limits.{most_transactions};
 ghost use Rattle.tables.specs.Counts.{dependency_count};

@@ -13,7 +13,9 @@ use terms::{Book, Refusal, Verdict};
 
 fn say_refused(rt: &impl Eprint, refusal: Refusal, place: usize) {
     let number = refusal.number();
-    let _ = eprintln!(rt; "showbook: the book cannot be read to its end: refused by {number} at byte {place}");
+    let _ = eprintln!(rt;
+        "showbook: the book cannot be read to its end: refused by {number} at byte {place}"
+    );
 }
 
 // Says why a book cannot be read to its end, if it cannot.
@@ -69,12 +71,7 @@ fn print_by(rt: &impl Print, fields: &[u32], n: usize, room: &mut [u8]) -> io::R
 }
 
 // Writes the text of a book by way of two rooms.
-fn print_in(
-    rt: &impl Print,
-    book: &[u8],
-    fields: &mut [u32],
-    room: &mut [u8],
-) -> io::Result<()> {
+fn print_in(rt: &impl Print, book: &[u8], fields: &mut [u32], room: &mut [u8]) -> io::Result<()> {
     let edition = tables::edition_of(book);
     let most = edition.most();
     let n = unpack(book, most, fields);

@@ -1,4 +1,6 @@
 // What a book declares before its events: its sagas, its plain transactions, its objects and the dependencies between transactions.
+#![tactic(auto)]
+
 ghost use Rattle.std.specs.Prelude.{◌≡◌, ℕ, ◌*◌, ◌≤◌, ◌<◌, get_or};
 ghost use Rattle.terms.specs.Limits.{most_sagas, most_transactions, most_dependencies};
 ghost use Rattle.sets.specs.Reach.{leads_to};

@@ -108,12 +108,6 @@ pub fn tell(rt: &impl Print, text: &[u8], book: &[u8]) -> Told
     let mut steps = [0u16; Names::MOST];
     let mut lists = [0u16; Names::MOST];
     tell_in(
-        rt,
-        text,
-        book,
-        &mut names,
-        &mut ends,
-        &mut steps,
-        &mut lists,
+        rt, text, book, &mut names, &mut ends, &mut steps, &mut lists,
     )
 }

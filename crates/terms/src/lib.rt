@@ -1,5 +1,7 @@
 // The words of the rules that every crate uses: what a book and a saga are limited to, what an event is, why something is refused, and what a
 // verdict is.
+#![tactic(auto)]
+
 ghost use Rattle.std.specs.Prelude.{◌≡◌};
 ghost use Rattle.terms.specs.Limits.{limits};
 ghost use Rattle.terms.specs.Events.{is_write};

@@ -1,4 +1,6 @@
 // Accepted operations, how one of them ends and changes hands, the ties between them, and which reads are dirty.
+#![tactic(auto)]
+
 ghost use Rattle.std.specs.Prelude.{◌≡◌};
 ghost use Rattle.ties.specs.Operations.{is_aborted, is_active, is_committed, most_operations, no_operation, no_ops, size, passed_to, given_to, held_by, ended_as, ended_alone};
 ghost use Rattle.ties.specs.Ties.{conflict, tied_to, is_gone, counts, pairs_of, read_by, dirties, waits_for};

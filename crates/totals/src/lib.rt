@@ -1,4 +1,6 @@
 // The term's figures: how many sagas of up to 1,000 books were begun, committed, backed out and are still open, and the share backed out of those begun.
+#![tactic(auto)]
+
 ghost use Rattle.std.specs.Prelude.{◌≡◌, ◌≤◌, ◌<◌};
 ghost use Rattle.laws.specs.Index.{one};
 ghost use Rattle.terms.specs.Limits.{most_sagas};

@@ -8,4 +8,4 @@ pub returns-in-1 : goal.returns-in-1
 returns-in-1 c = rw c.in-1.is
 
 pub returns-in_default : goal.returns-in_default
-returns-in_default c = rw (ne_eqb c.args.mark 0 c.in_default-own.rest.0.1, ne_eqb c.args.mark 1 c.in_default-own.rest.1)
+returns-in_default c = rw (ne_eqb c.args.mark 0 c.in_default.in_default-own.rest.0.1, ne_eqb c.args.mark 1 c.in_default.in_default-own.rest.1)

@@ -94,7 +94,7 @@ pub returns-in_default : goal.returns-in_default
 unfolding verdict_in
 returns-in_default c =
     let n = c.args.n in
-    let r = c.in_default-own.rest in
+    let r = c.in_default.in_default-own.rest in
     rw (
       ne_eqb n 1 r.0.0.0.0.0.0.0.0.0.0.0.0.0.0.0.0.0.0.0.0.0.1,
       ne_eqb n 2 r.0.0.0.0.0.0.0.0.0.0.0.0.0.0.0.0.0.0.0.0.1,

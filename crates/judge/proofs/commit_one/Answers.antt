@@ -9,14 +9,11 @@ use Rattle.terms.specs.declared.Refusal.TheVariants.{DirtyRead, OnRing}
 use Rattle.terms.specs.declared.Event.TheVariants.{CommitOne}
 use Rattle.ties.specs.Ties.{dirty_at, on_ring}
 use Rattle.cells.specs.Cells.{ops_in}
-use Rattle.tables.specs.declared.Tables.{Tables}
-use Rattle.sheet.specs.Sheet.{Holds}
 use Rattle.rules.specs.Lent.{transactions_in}
 use Rattle.rules.specs.States.{is_child}
-use Rattle.judge.specs.Judge.{change_of, clerk_of, commit_one_lines, ruled_by, single_lines, verdict_by}
+use Rattle.judge.specs.Judge.{change_of, clerk_of, single_lines, verdict_by}
 use Rattle.judge.proofs.RuleLaws.{shared-refused, shared-passed, ruled-passed, ruled-stopped}
 use Rattle.judge.proofs.LentLaws.{dirty-told}
-use borrow.Author.Rules.{rules}
 use Rattle.judge.proofs.commit_one.Goals as goal
 
 -- the two lines that are the commit's own, behind those that the abort of one operation has too
@@ -33,7 +30,7 @@ returns-in_default c tables h k =
     let ops = ops_in a.ops.now a.n in
     let child = is_child (clerk_of tables ts a.t) in
     let told : c.single-allowed.result ≡ verdict_by (single_lines tables ts ops a.t a.q child) = c.single-allowed.ensures tables h
-        ∙ ap (λ (b : Bool). verdict_by (single_lines tables ts ops a.t a.q b)) (c.is_child-child.ensures ∙ ap is_child (c.clerk_of-clerk.ensures tables h)) in
+    ∙ ap (λ (b : Bool). verdict_by (single_lines tables ts ops a.t a.q b)) (c.is_child-child.ensures ∙ ap is_child (c.clerk_of-clerk.ensures tables h)) in
     let change = change_of tables ts (CommitOne a.t a.q) in
     shared-refused (single_lines tables ts ops a.t a.q child) (own ops a.t a.q) change told c.in_default.field-0 c.in_default.is
 
@@ -45,7 +42,7 @@ returns-then-dirty_one c tables h k =
     let ops = ops_in a.ops.now a.n in
     let child = is_child (clerk_of tables ts a.t) in
     let told : c.single-allowed.result ≡ verdict_by (single_lines tables ts ops a.t a.q child) = c.single-allowed.ensures tables h
-        ∙ ap (λ (b : Bool). verdict_by (single_lines tables ts ops a.t a.q b)) (c.is_child-child.ensures ∙ ap is_child (c.clerk_of-clerk.ensures tables h)) in
+    ∙ ap (λ (b : Bool). verdict_by (single_lines tables ts ops a.t a.q b)) (c.is_child-child.ensures ∙ ap is_child (c.clerk_of-clerk.ensures tables h)) in
     let change = change_of tables ts (CommitOne a.t a.q) in
     c.refused.ensures ∙ sym (shared-passed (single_lines tables ts ops a.t a.q child) (own ops a.t a.q) change told c.in-Accepted.is
     ∙ ruled-stopped (own ops a.t a.q) change (sym (c.dirty_one.ensures ∙ dirty-told tables ts a.ops.now a.n a.t a.q child (sym told ∙ c.in-Accepted.is)) ∙ c.if-dirty_one.true))
@@ -57,7 +54,7 @@ returns-then-is_ringed c tables h k =
     let ops = ops_in a.ops.now a.n in
     let child = is_child (clerk_of tables ts a.t) in
     let told : c.single-allowed.result ≡ verdict_by (single_lines tables ts ops a.t a.q child) = c.single-allowed.ensures tables h
-        ∙ ap (λ (b : Bool). verdict_by (single_lines tables ts ops a.t a.q b)) (c.is_child-child.ensures ∙ ap is_child (c.clerk_of-clerk.ensures tables h)) in
+    ∙ ap (λ (b : Bool). verdict_by (single_lines tables ts ops a.t a.q b)) (c.is_child-child.ensures ∙ ap is_child (c.clerk_of-clerk.ensures tables h)) in
     let change = change_of tables ts (CommitOne a.t a.q) in
     c.refused-then-is_ringed.ensures ∙ sym (shared-passed (single_lines tables ts ops a.t a.q child) (own ops a.t a.q) change told c.in-Accepted.is
     ∙ ruled-passed (own ops a.t a.q) change (sym (c.dirty_one.ensures ∙ dirty-told tables ts a.ops.now a.n a.t a.q child (sym told ∙ c.in-Accepted.is)) ∙ c.if-dirty_one.false)
@@ -70,7 +67,7 @@ returns c tables h k =
     let ops = ops_in a.ops.now a.n in
     let child = is_child (clerk_of tables ts a.t) in
     let told : c.single-allowed.result ≡ verdict_by (single_lines tables ts ops a.t a.q child) = c.single-allowed.ensures tables h
-        ∙ ap (λ (b : Bool). verdict_by (single_lines tables ts ops a.t a.q b)) (c.is_child-child.ensures ∙ ap is_child (c.clerk_of-clerk.ensures tables h)) in
+    ∙ ap (λ (b : Bool). verdict_by (single_lines tables ts ops a.t a.q b)) (c.is_child-child.ensures ∙ ap is_child (c.clerk_of-clerk.ensures tables h)) in
     let change = change_of tables ts (CommitOne a.t a.q) in
     c.accepted.ensures ∙ sym (shared-passed (single_lines tables ts ops a.t a.q child) (own ops a.t a.q) change told c.in-Accepted.is
     ∙ ruled-passed (own ops a.t a.q) change (sym (c.dirty_one.ensures ∙ dirty-told tables ts a.ops.now a.n a.t a.q child (sym told ∙ c.in-Accepted.is)) ∙ c.if-dirty_one.false)

@@ -23,41 +23,41 @@ third k = omega arith
 pub overflow_add-blank : goal.overflow_add-blank
 overflow_add-blank c =
     let wide_is : c.digits-wide.result ≡ length (decimal (number_of c.args.no.refusal)) =
-        c.digits-wide.ensures ∙ ap (λ (k : ℕ). length (decimal k)) c.number-number.ensures in
+    c.digits-wide.ensures ∙ ap (λ (k : ℕ). length (decimal k)) c.number-number.ensures in
     let ends : c.args.at + 3 + c.digits-long.result + 1 + c.digits-wide.result + 1 ≡ c.args.at + length (no_line c.args.no) =
-        omega (arith, no-long c.args.no, c.digits-long.ensures, wide_is) in
+    omega (arith, no-long c.args.no, c.digits-long.ensures, wide_is) in
     omega (arith, ends, c.requires)
 
 pub overflow_add-second : goal.overflow_add-second
 overflow_add-second c =
     let wide_is : c.digits-wide.result ≡ length (decimal (number_of c.args.no.refusal)) =
-        c.digits-wide.ensures ∙ ap (λ (k : ℕ). length (decimal k)) c.number-number.ensures in
+    c.digits-wide.ensures ∙ ap (λ (k : ℕ). length (decimal k)) c.number-number.ensures in
     let ends : c.args.at + 3 + c.digits-long.result + 1 + c.digits-wide.result + 1 ≡ c.args.at + length (no_line c.args.no) =
-        omega (arith, no-long c.args.no, c.digits-long.ensures, wide_is) in
+    omega (arith, no-long c.args.no, c.digits-long.ensures, wide_is) in
     omega (arith, ends, c.requires)
 
 pub overflow_add-feed : goal.overflow_add-feed
 overflow_add-feed c =
     let wide_is : c.digits-wide.result ≡ length (decimal (number_of c.args.no.refusal)) =
-        c.digits-wide.ensures ∙ ap (λ (k : ℕ). length (decimal k)) c.number-number.ensures in
+    c.digits-wide.ensures ∙ ap (λ (k : ℕ). length (decimal k)) c.number-number.ensures in
     let ends : c.args.at + 3 + c.digits-long.result + 1 + c.digits-wide.result + 1 ≡ c.args.at + length (no_line c.args.no) =
-        omega (arith, no-long c.args.no, c.digits-long.ensures, wide_is) in
+    omega (arith, no-long c.args.no, c.digits-long.ensures, wide_is) in
     omega (arith, ends, c.requires)
 
 pub overflow_add-end : goal.overflow_add-end
 overflow_add-end c =
     let wide_is : c.digits-wide.result ≡ length (decimal (number_of c.args.no.refusal)) =
-        c.digits-wide.ensures ∙ ap (λ (k : ℕ). length (decimal k)) c.number-number.ensures in
+    c.digits-wide.ensures ∙ ap (λ (k : ℕ). length (decimal k)) c.number-number.ensures in
     let ends : c.args.at + 3 + c.digits-long.result + 1 + c.digits-wide.result + 1 ≡ c.args.at + length (no_line c.args.no) =
-        omega (arith, no-long c.args.no, c.digits-long.ensures, wide_is) in
+    omega (arith, no-long c.args.no, c.digits-long.ensures, wide_is) in
     omega (arith, ends, c.requires)
 
 pub returns-then-room-end : goal.returns-then-room-end
 returns-then-room-end c =
     let wide_is : c.digits-wide.result ≡ length (decimal (number_of c.args.no.refusal)) =
-        c.digits-wide.ensures ∙ ap (λ (k : ℕ). length (decimal k)) c.number-number.ensures in
+    c.digits-wide.ensures ∙ ap (λ (k : ℕ). length (decimal k)) c.number-number.ensures in
     let ends : c.args.at + 3 + c.digits-long.result + 1 + c.digits-wide.result + 1 ≡ c.args.at + length (no_line c.args.no) =
-        omega (arith, no-long c.args.no, c.digits-long.ensures, wide_is) in
+    omega (arith, no-long c.args.no, c.digits-long.ensures, wide_is) in
     (ends, λ fits. absurd (omega arith))
 
 pub bounds-room-letter : goal.bounds-room-letter
@@ -69,43 +69,43 @@ bounds-room-space c = simp length-set (omega arith)
 pub lay_number-requires : goal.lay_number-requires
 lay_number-requires c =
     let front_long : length (front c.args.room.now c.args.at) ≡ length c.args.room.now =
-        simp length-set refl in
+    simp length-set refl in
     (c.digits-long.ensures, omega (arith, front_long))
 
 pub bounds-room-blank : goal.bounds-room-blank
 bounds-room-blank c =
     let front_long : length (front c.args.room.now c.args.at) ≡ length c.args.room.now =
-        simp length-set refl in
+    simp length-set refl in
     omega (arith, c.lay_number.auto.room, front_long)
 
 pub lay_number-requires-2 : goal.lay_number-requires-2
 lay_number-requires-2 c =
     let front_long : length (front c.args.room.now c.args.at) ≡ length c.args.room.now =
-        simp length-set refl in
+    simp length-set refl in
     (c.digits-wide.ensures, simp length-set (omega (arith, c.lay_number.auto.room, front_long)))
 
 pub bounds-room-feed : goal.bounds-room-feed
 bounds-room-feed c =
     let front_long : length (front c.args.room.now c.args.at) ≡ length c.args.room.now =
-        simp length-set refl in
+    simp length-set refl in
     let second-long : length (set c.lay_number.new.room (c.args.at + 3 + c.digits-long.result) 32) ≡ length c.args.room.now =
-        simp length-set (c.lay_number.auto.room ∙ front_long) in
+    simp length-set (c.lay_number.auto.room ∙ front_long) in
     omega (arith, c.lay_number-2.auto.room, second-long)
 
 pub shape_of-room : goal.shape_of-room
 shape_of-room c =
     let front_long : length (front c.args.room.now c.args.at) ≡ length c.args.room.now =
-        simp length-set refl in
+    simp length-set refl in
     let second-long : length (set c.lay_number.new.room (c.args.at + 3 + c.digits-long.result) 32) ≡ length c.args.room.now =
-        simp length-set (c.lay_number.auto.room ∙ front_long) in
+    simp length-set (c.lay_number.auto.room ∙ front_long) in
     simp length-set (c.lay_number-2.auto.room ∙ second-long)
 
 pub returns : goal.returns
 returns c =
     let wide_is : c.digits-wide.result ≡ length (decimal (number_of c.args.no.refusal)) =
-        c.digits-wide.ensures ∙ ap (λ (k : ℕ). length (decimal k)) c.number-number.ensures in
+    c.digits-wide.ensures ∙ ap (λ (k : ℕ). length (decimal k)) c.number-number.ensures in
     let ends : c.args.at + 3 + c.digits-long.result + 1 + c.digits-wide.result + 1 ≡ c.args.at + length (no_line c.args.no) =
-        omega (arith, no-long c.args.no, c.digits-long.ensures, wide_is) in
+    omega (arith, no-long c.args.no, c.digits-long.ensures, wide_is) in
     let a = c.args in
     let room = a.room.now in
     let x = a.no in

@@ -19,7 +19,7 @@ loop-k-init c =
 pub put_at-end-requires : goal.put_at-end-requires
 put_at-end-requires c =
     let one_more : let r = c.args.judgement in let k = c.loop-k.k in lines_from r k (line_count r - k) ≡ line_of r k ++ lines_from r (k + 1) (line_count r - (k + 1)) =
-        let l = c.loop-k in lines_step _ l.k _ _ (omega (arith, l.invariant.2)) in
+    let l = c.loop-k in lines_step _ l.k _ _ (omega (arith, l.invariant.2)) in
     let l = c.loop-k in
     let next = laying-next (line_of c.args.judgement l.k) _ (laying-same l.invariant.4 one_more) in
     omega (arith, next, c.requires, ap length c.line-text.ensures)
@@ -30,7 +30,7 @@ loop-k-smaller c = omega arith
 pub loop-k-preserved : goal.loop-k-preserved
 loop-k-preserved c =
     let one_more : let r = c.args.judgement in let k = c.loop-k.k in lines_from r k (line_count r - k) ≡ line_of r k ++ lines_from r (k + 1) (line_count r - (k + 1)) =
-        let l = c.loop-k in lines_step _ l.k _ _ (omega (arith, l.invariant.2)) in
+    let l = c.loop-k in lines_step _ l.k _ _ (omega (arith, l.invariant.2)) in
     let a = c.args in
     let l = c.loop-k in
     let p = c.put_at-end in

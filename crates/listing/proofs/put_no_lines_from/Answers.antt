@@ -42,14 +42,14 @@ lay_no-end-requires c =
     let n = c.next_refused-found in
     let found = c.in-Next in
     let to-come : (tables : Tables) → Holds tables c.sheet_of-sheet.result → length a.book.now ≤ most_bytes
-        → Laying a.at (no_lines (take a.count (refused_from tables empty_state 0 (items_after a.edition a.book.now a.start)))) a.room.now l.end
-        (no_line found.no ++ no_lines (take (l.left - 1) (refused_after tables a.edition a.book.now (state_in n.new.transactions n.new.ops found.after.count) found.after))) l.room
-        × (found.after.index ≤ found.after.place) × Ringed (ops_in n.new.ops found.after.count) found.known =
-        λ tables h short.
-            let so = l.invariant.1 tables h short in
-            let next = subst (λ (f : Found). Finds tables a.edition a.book.now (state_in l.transactions l.ops l.cursor.count) l.cursor f n.new.transactions n.new.ops) found.is (n.ensures tables h short so.1 so.2) in
-            let some : 0 < l.left = omega arith in
-            (laying-same so.0 (ap (λ (r : List No). no_lines (take l.left r)) next.0 ∙ nos-step l.left _ _ some), next.1, next.2) in
+    → Laying a.at (no_lines (take a.count (refused_from tables empty_state 0 (items_after a.edition a.book.now a.start)))) a.room.now l.end
+    (no_line found.no ++ no_lines (take (l.left - 1) (refused_after tables a.edition a.book.now (state_in n.new.transactions n.new.ops found.after.count) found.after))) l.room
+    × (found.after.index ≤ found.after.place) × Ringed (ops_in n.new.ops found.after.count) found.known =
+    λ tables h short.
+    let so = l.invariant.1 tables h short in
+    let next = subst (λ (f : Found). Finds tables a.edition a.book.now (state_in l.transactions l.ops l.cursor.count) l.cursor f n.new.transactions n.new.ops) found.is (n.ensures tables h short so.1 so.2) in
+    let some : 0 < l.left = omega arith in
+    (laying-same so.0 (ap (λ (r : List No). no_lines (take l.left r)) next.0 ∙ nos-step l.left _ _ some), next.1, next.2) in
     let go = to-come a.tables (c.sheet_of-sheet.ensures c.requires.0) c.requires.1.0 in
     let next = laying-next (no_line found.no) _ go.0 in
     omega (arith, next, c.requires.1.1)
@@ -64,14 +64,14 @@ loop-left-preserved c =
     let n = c.next_refused-found in
     let found = c.in-Next in
     let to-come : (tables : Tables) → Holds tables c.sheet_of-sheet.result → length a.book.now ≤ most_bytes
-        → Laying a.at (no_lines (take a.count (refused_from tables empty_state 0 (items_after a.edition a.book.now a.start)))) a.room.now l.end
-        (no_line found.no ++ no_lines (take (l.left - 1) (refused_after tables a.edition a.book.now (state_in n.new.transactions n.new.ops found.after.count) found.after))) l.room
-        × (found.after.index ≤ found.after.place) × Ringed (ops_in n.new.ops found.after.count) found.known =
-        λ tables h short.
-            let so = l.invariant.1 tables h short in
-            let next = subst (λ (f : Found). Finds tables a.edition a.book.now (state_in l.transactions l.ops l.cursor.count) l.cursor f n.new.transactions n.new.ops) found.is (n.ensures tables h short so.1 so.2) in
-            let some : 0 < l.left = omega arith in
-            (laying-same so.0 (ap (λ (r : List No). no_lines (take l.left r)) next.0 ∙ nos-step l.left _ _ some), next.1, next.2) in
+    → Laying a.at (no_lines (take a.count (refused_from tables empty_state 0 (items_after a.edition a.book.now a.start)))) a.room.now l.end
+    (no_line found.no ++ no_lines (take (l.left - 1) (refused_after tables a.edition a.book.now (state_in n.new.transactions n.new.ops found.after.count) found.after))) l.room
+    × (found.after.index ≤ found.after.place) × Ringed (ops_in n.new.ops found.after.count) found.known =
+    λ tables h short.
+    let so = l.invariant.1 tables h short in
+    let next = subst (λ (f : Found). Finds tables a.edition a.book.now (state_in l.transactions l.ops l.cursor.count) l.cursor f n.new.transactions n.new.ops) found.is (n.ensures tables h short so.1 so.2) in
+    let some : 0 < l.left = omega arith in
+    (laying-same so.0 (ap (λ (r : List No). no_lines (take l.left r)) next.0 ∙ nos-step l.left _ _ some), next.1, next.2) in
     let p = c.lay_no-end in (
       p.auto.room ∙ l.invariant.0,
       λ tables h short.

@@ -1,15 +1,12 @@
-use borrow.Author.Rules.{rules}
 use native.Mathlib.Omega.{arith}
-use Prim.Native.Nat.{ℕ, ◌-◌, ◌≤◌, min}
-use mathlib.Core.Path.{◌≡◌, sym, ap, ◌∙◌}
+use Prim.Native.Nat.{ℕ}
+use mathlib.Core.Path.{sym, ap, ◌∙◌}
 use mathlib.Core.Bool.{and-false}
-use mathlib.Core.Logic.{⊎_elim}
-use Rattle.laws.proofs.Bools.{and_on, on-not}
-use Rattle.terms.specs.Limits.{most_transactions}
+use Rattle.laws.proofs.Bools.{and_on}
 use Rattle.sets.specs.Sets.{set_of}
 use Rattle.sets.proofs.SetLaws.{set-of-none, set-of-in, set-of-out}
 use Rattle.tables.specs.Sorts.{is_undo}
-use Rattle.sheet.specs.Sheet.{sort_at, owned_on}
+use Rattle.sheet.specs.Sheet.{sort_at}
 use Rattle.rules.specs.Lent.{transactions_in}
 use Rattle.rules.specs.Rules.{undo_on}
 use Rattle.rules.specs.States.{is_active, phase_of}
@@ -41,13 +38,13 @@ loop-t-preserved c =
     let active = c.is_active.ensures ∙ ap is_active (c.phase_in-phase.ensures ∙ sym (phase-low a.transactions.now l.t (omega (arith, l.invariant.2)))) in (
       omega arith,
       elim c.if-is_active.branch [
-          then-is_active+then-is_undo w ↦
-          w.set-is ∙ w.with_member-set.ensures
-          ∙ set-of-in f l.t l.set l.invariant.1
-          (and_on (is_undo (sort_at a.sheet.now l.t)) (is_active (phase_of ts l.t)) (sym (w.is_undo.ensures ∙ ap is_undo w.sort_at-sort.ensures) ∙ w.if-is_undo.true) (sym active ∙ w.if-is_active.true))
-          | then-is_active+else-is_undo w ↦ w.set-is ∙ set-of-out f l.t l.set l.invariant.1 (rw (sym (w.is_undo.ensures ∙ ap is_undo w.sort_at-sort.ensures) ∙ w.if-is_undo.false))
-          | else-is_active w ↦ w.set-is ∙ set-of-out f l.t l.set l.invariant.1 (rw (sym active ∙ w.if-is_active.false, and-false (is_undo (sort_at a.sheet.now l.t))))
-          ],
+        | then-is_active+then-is_undo w ↦
+            w.set-is ∙ w.with_member-set.ensures
+            ∙ set-of-in f l.t l.set l.invariant.1
+            (and_on (is_undo (sort_at a.sheet.now l.t)) (is_active (phase_of ts l.t)) (sym (w.is_undo.ensures ∙ ap is_undo w.sort_at-sort.ensures) ∙ w.if-is_undo.true) (sym active ∙ w.if-is_active.true))
+        | then-is_active+else-is_undo w ↦ w.set-is ∙ set-of-out f l.t l.set l.invariant.1 (rw (sym (w.is_undo.ensures ∙ ap is_undo w.sort_at-sort.ensures) ∙ w.if-is_undo.false))
+        | else-is_active w ↦ w.set-is ∙ set-of-out f l.t l.set l.invariant.1 (rw (sym active ∙ w.if-is_active.false, and-false (is_undo (sort_at a.sheet.now l.t))))
+      ],
       l.invariant.2,
     )
 

@@ -1,13 +1,6 @@
-use borrow.Author.Rules.{rules}
 use native.Mathlib.Omega.{arith}
-use Prim.Native.Nat.{◌-◌, ◌≤◌, min}
-use mathlib.Core.Path.{◌≡◌, refl, sym, ap, ◌∙◌}
-use mathlib.Core.Bool.{false}
-use mathlib.Core.Logic.{⊎_elim}
-use Rattle.laws.specs.Index.{any_below}
+use mathlib.Core.Path.{refl, sym, ap, ◌∙◌}
 use Rattle.laws.proofs.IndexLaws.{any_none, search-hit, search-miss, search-end}
-use Rattle.terms.specs.Limits.{most_dependencies}
-use Rattle.sheet.specs.Sheet.{declared_on}
 use Rattle.rules.specs.Lent.{transactions_in}
 use Rattle.rules.specs.Rules.{barred_by}
 use Rattle.rules.proofs.RuleLaws.{bars_on, bars-held, other-dependent, own-dependent}
@@ -38,8 +31,8 @@ loop-i-preserved c =
       l.invariant.1,
       search-miss (bars_on a.begins a.sheet.now ts a.t) l.i l.invariant.2
           (elim c.if-dependent-t.branch [
-          then-dependent-t+else-kind_bars w ↦ sym w.if-kind_bars.false ∙ own-dependent a.begins ts a.t d.result w.if-dependent-t.true w.phase_at-phase.ensures w.kind_bars.ensures ∙ same
-          | else-dependent-t w ↦ other-dependent a.begins ts a.t d.result w.if-dependent-t.false ∙ same
+            | then-dependent-t+else-kind_bars w ↦ sym w.if-kind_bars.false ∙ own-dependent a.begins ts a.t d.result w.if-dependent-t.true w.phase_at-phase.ensures w.kind_bars.ensures ∙ same
+            | else-dependent-t w ↦ other-dependent a.begins ts a.t d.result w.if-dependent-t.false ∙ same
           ]) refl,
     )
 

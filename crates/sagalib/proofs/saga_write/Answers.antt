@@ -9,9 +9,8 @@ use Rattle.sagalib.proofs.saga_write.Goals as goal
 pub returns-in_default : goal.returns-in_default
 returns-in_default c =
     let a = c.args in
-    let write = c.write-outcome in
-    let told = c.in_default.is in (
-      refused-is a.fields.now a.room.now write.result write.ensures.0 told.0.0 told.0.1.0 told.0.1.1.0 told.1 0
+    let write = c.write-outcome in (
+      refused-is a.fields.now a.room.now write.result write.ensures.0 _ _ _ c.in_default.is 0
           c.outcome_numbers-refused.result c.outcome_numbers-refused.ensures,
       write.ensures.1,
     )

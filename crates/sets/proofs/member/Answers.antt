@@ -4,7 +4,6 @@ use lib.Dec.{eqb}
 use lib.Bits.{and_mask}
 use Rattle.sets.specs.Sets.{mem}
 use Rattle.sets.proofs.SetLaws.{mem-past}
-use borrow.Author.Rules.{rules}
 use Rattle.sets.proofs.member.Goals as goal
 
 pub returns-then-t-ge-TRANSACTIONS : goal.returns-then-t-ge-TRANSACTIONS

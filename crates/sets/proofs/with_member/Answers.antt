@@ -6,7 +6,6 @@ use lib.Bits.{bit_or}
 use lib.Pow.{shl_exact}
 use lib.Dec.{lit<}
 use Rattle.sets.proofs.SetLaws.{inserted-in, inserted-past}
-use borrow.Author.Rules.{rules}
 use Rattle.sets.proofs.with_member.Goals as goal
 
 pub returns-then-t-ge-TRANSACTIONS : goal.returns-then-t-ge-TRANSACTIONS
