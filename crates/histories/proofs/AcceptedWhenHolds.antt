@@ -8,7 +8,6 @@ use mathlib.Core.List.{List, []}
 use lib.Dec.{eqb, leb, ltb}
 use lib.ListN.{drop, take}
 use borrow.Author.Tests.{eq-eqb, eqb-false, eqb-true, leb-false, lt-leb, lt-ltb, ltb-true, ne_eqb}
-use Rattle.laws.specs.Lines.{Off}
 use Rattle.laws.proofs.Bools.{and-off, and_on, and-rest, bool_cases, clash, is-not, not-off, off-not, off-or, on_and, on-not}
 use Rattle.laws.proofs.Decisions.{lt-or}
 use Rattle.laws.proofs.IndexLaws.{any-elim, any-off, off-any}

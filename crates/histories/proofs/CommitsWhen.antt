@@ -1,11 +1,10 @@
 -- When a commit is accepted, that of a child and that of anyone else, and when a spawn is; when 15, 16 and 22 refuse a commit.
-use Prim.Native.Nat.{ℕ, ◌<◌, ◌≤◌}
+use Prim.Native.Nat.{ℕ, ◌≤◌}
 use native.Mathlib.Omega.{arith}
 use mathlib.Core.Path.{◌≡◌, refl, sym, ap, ◌∙◌, subst, subst⁻¹}
-use mathlib.Core.Bool.{Bool, true, false, not, ◌&&◌, ◌||◌}
+use mathlib.Core.Bool.{Bool, true, false, not, ◌||◌}
 use mathlib.Core.Logic.{◌↔◌, ◌≢◌}
 use mathlib.Core.List.{List, []}
-use lib.Dec.{eqb}
 use lib.ListN.{drop, length, take}
 use borrow.Author.Tests.{eq-eqb}
 use Rattle.laws.specs.Lines.{Line, Off}
@@ -25,7 +24,6 @@ use Rattle.tables.specs.Sorts.{is_known, is_plain, sort_of}
 use Rattle.tables.specs.declared.Tables.{Tables}
 use Rattle.rules.specs.Rules.{active_child, active_undo, child_active, declared_bars, inactive}
 use Rattle.rules.specs.States.{has_ended, is_active, is_idle, is_under, parent_of, phase_of}
-use Rattle.rules.specs.declared.Parent.{Parent}
 use Rattle.rules.specs.declared.Parent.TheVariants.{Nobody, Under}
 use Rattle.rules.specs.declared.Phase.{Phase}
 use Rattle.rules.specs.declared.Phase.TheVariants.{Aborted, Active, Committed, Idle}

@@ -2,7 +2,7 @@
 use Prim.Native.Nat.{ℕ, ◌<◌, ◌≤◌}
 use native.Mathlib.Omega.{arith}
 use mathlib.Core.Path.{◌≡◌, refl, sym, ap, ◌∙◌, subst⁻¹}
-use mathlib.Core.Bool.{Bool, true, false, cond}
+use mathlib.Core.Bool.{true, false}
 use mathlib.Core.List.{List}
 use lib.ListN.{get_or, length}
 use Rattle.laws.proofs.Bools.{bool_cases, clash}
@@ -23,7 +23,7 @@ use Rattle.rules.proofs.PhaseLaws.{code}
 use Rattle.rules.proofs.StateLaws.{all-free, entered-parent, length-spawned, past-free, spawned-other, spawned-same}
 use Rattle.judge.specs.Judge.{clerk_of, state_after}
 use Rattle.judge.specs.declared.Change.{Change}
-use Rattle.histories.specs.Histories.{reached, run}
+use Rattle.histories.specs.Histories.{reached}
 use Rattle.histories.proofs.Steps.{Spawning, Step, ends, ends-one, enters, gives, hands, keeps-by, makes, spawns}
 use Rattle.histories.proofs.Lasts.{Lasting}
 use Rattle.histories.proofs.Touches.{every, phased, rises}

@@ -1,7 +1,7 @@
 -- One operation ended alone: when it is accepted, and that nothing else changes.
 use Prim.Native.Nat.{ℕ}
 use mathlib.Core.Path.{◌≡◌, refl, sym, subst, ◌∙◌}
-use mathlib.Core.Bool.{Bool, true, false, not, ◌||◌, and-false}
+use mathlib.Core.Bool.{Bool, false, not, ◌||◌, and-false}
 use lib.Dec.{ltb, eqb}
 use borrow.Author.Tests.{eq-eqb, lt-ltb, ne_eqb}
 use Rattle.laws.proofs.Bools.{bool_cases}

@@ -1,5 +1,5 @@
 -- An event of a history was accepted in the state that the events before it lead to, and what comes after it is a history from there.
-use mathlib.Core.Path.{◌≡◌, refl, sym, ap, ◌∙◌, subst}
+use mathlib.Core.Path.{◌≡◌, sym, ◌∙◌, subst}
 use mathlib.Core.List.{List, [], ◌∷◌, ◌++◌}
 use Prim.Native.Nat.{ℕ}
 use native.Mathlib.Omega.{arith}
@@ -8,9 +8,9 @@ use Rattle.terms.specs.declared.Verdict.TheVariants.{Accepted}
 use Rattle.tables.specs.declared.Tables.{Tables}
 use Rattle.rules.specs.declared.State.{State}
 use Rattle.judge.specs.Judge.{judged}
-use Rattle.judge.proofs.EventLaws.{by-verdict, next-ok}
+use Rattle.judge.proofs.EventLaws.{by-verdict}
 use Rattle.histories.specs.Histories.{next, run, taken}
-use Rattle.histories.proofs.RunLaws.{taken-no, taken-ok}
+use Rattle.histories.proofs.RunLaws.{taken-no}
 
 none_more : (xs ys : List Event) (e : Event) → [] ≡ xs ++ (e ∷ ys) → ⊥
 none_more [] ys e q = let z : ◌≡◌ {A = ℕ} 0 1 = cc in omega arith

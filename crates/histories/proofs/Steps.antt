@@ -2,7 +2,7 @@
 use Prim.Native.Nat.{ℕ, ◌<◌, ◌≤◌}
 use native.Mathlib.Omega.{arith}
 use mathlib.Core.Path.{◌≡◌, refl, sym, ap, subst}
-use mathlib.Core.Bool.{Bool, true, false, cond, not, ◌&&◌, ◌||◌}
+use mathlib.Core.Bool.{Bool, true, false, not, ◌&&◌, ◌||◌}
 use mathlib.Core.List.{List}
 use lib.Dec.{eqb}
 use borrow.Author.Tests.{eqb-true, leb-false}
@@ -19,10 +19,10 @@ use Rattle.tables.specs.Sorts.{is_plain, is_saga, is_undo, sort_of}
 use Rattle.tables.specs.declared.Tables.{Tables}
 use Rattle.histories.specs.Histories.{next, run}
 use Rattle.rules.specs.Rules.{active_undo, inactive}
-use Rattle.judge.specs.Judge.{awaits_child, change_of, clerk_of, commit_lines_under, commit_one_lines, commit_under, judged, lines, no_party, plain_parent, single_lines, state_after, unknown}
+use Rattle.judge.specs.Judge.{awaits_child, change_of, clerk_of, commit_lines_under, commit_one_lines, commit_under, judged, lines, no_party, single_lines, state_after, unknown}
 use Rattle.histories.specs.Promises.{MayEndOne}
 use Rattle.rules.specs.Rules.{abort_barred, begin_barred, commit_barred, declared_bars}
-use Rattle.rules.specs.States.{entered, is_active, is_child, is_idle, parent_of, phase_of}
+use Rattle.rules.specs.States.{entered, is_active, is_child, is_idle, phase_of}
 use Rattle.judge.specs.declared.Change.{Change}
 use Rattle.judge.specs.declared.Change.TheVariants.{Ends, EndsOne, Enters, Gives, Hands, Makes, Spawns}
 use Rattle.terms.specs.declared.Event.{Event}

@@ -20,7 +20,7 @@ use Rattle.terms.specs.declared.Event.{Event}
 use Rattle.terms.specs.declared.Event.TheVariants.{Abort, AbortOne, Commit, CommitOne}
 use Rattle.rules.specs.States.{is_active, is_child, parent_of, phase_of, empty_state}
 use Rattle.rules.specs.Rules.{active_undo}
-use Rattle.judge.specs.Judge.{clerk_of, lines, judged}
+use Rattle.judge.specs.Judge.{clerk_of, judged}
 use Rattle.terms.specs.Events.{is_write}
 use Rattle.histories.specs.Families.{Families}
 use Rattle.histories.specs.Histories.{Deed, history, reached, responsible_in, told, when_made}
