@@ -6,7 +6,7 @@ use mathlib.Core.Path.{◌≡◌, refl, sym, ap, ap₂, ◌∙◌, subst, subst�
 use mathlib.Core.Bool.{true, false, cond, ◌&&◌}
 use mathlib.Core.List.{List, ◌∷◌, map}
 use lib.Dec.{ltb}
-use lib.ListN.{length, get_or, set, replicate, length-map, length-set, length-replicate, get_or-replicate, get_or-map, get_or-eq_default}
+use lib.ListN.{length, get_or, set, replicate, length-set, length-replicate, get_or-replicate, get_or-map, get_or-eq_default}
 use lib.Seq.{set-get_or, get_or-set_same, get_or-set_other, ext_get_or}
 use borrow.Author.Tests.{lt-ltb, le-ltb, ltb-true}
 use Rattle.laws.proofs.Bools.{and_on, on_and, bool_cases}
@@ -18,7 +18,7 @@ use Rattle.terms.specs.declared.Mark.TheVariants.{Read, Write}
 use Rattle.ties.specs.declared.Fate.{Fate}
 use Rattle.ties.specs.declared.Fate.TheVariants.{Aborted, Active, Committed}
 use Rattle.ties.specs.declared.Operation.{Operation}
-use Rattle.ties.specs.Operations.{most_operations, is_active, no_operation, no_ops, op_at, size, passed_to, given_to, held_by, ended_as, ended_alone, ended_one, ended_ops, changed, rewrites, rewritten, only_active, all_held_by}
+use Rattle.ties.specs.Operations.{most_operations, is_active, no_operation, no_ops, op_at, size, passed_to, given_to, held_by, ended_as, ended_alone, ended_one, changed, rewrites, rewritten, only_active, all_held_by}
 use Rattle.ties.proofs.OpsLaws.{made-room, made-full, stored, one-stored, one-past, changed-none, changed-more, changed-above, changed-all}
 use Rattle.cells.specs.Cells.{mark_in, fate_in, mark_code, fate_code, op_in, ops_in, fits, made_in, given_in, becomes, keeps_fit, held_in, Next, WholeOps}
 use Rattle.cells.specs.declared.Becomes.{Becomes}

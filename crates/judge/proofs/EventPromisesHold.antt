@@ -14,7 +14,6 @@ use Rattle.terms.specs.declared.Mark.{Mark}
 use Rattle.terms.specs.declared.Refusal.TheVariants.{DirtyRead, OnRing}
 use Rattle.terms.specs.declared.Verdict.TheVariants.{Accepted}
 use Rattle.ties.specs.Operations.{all_held_by, ended_as, is_active as is_active_op, made, most_operations, new_op, no_operation, only_active, op_at, passed_to, rewritten, size}
-use Rattle.ties.specs.declared.Fate.{Fate}
 use Rattle.ties.specs.declared.Fate.TheVariants.{Aborted as FateAborted, Committed as FateCommitted}
 use Rattle.ties.specs.declared.Operation.{Operation}
 use Rattle.ties.specs.declared.Ops.{Ops}

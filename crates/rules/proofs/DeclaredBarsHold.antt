@@ -1,6 +1,6 @@
 -- What declared dependencies bar, in words.
 use Prim.Native.Nat.{ℕ}
-use mathlib.Core.Path.{◌≡◌, refl}
+use mathlib.Core.Path.{◌≡◌}
 use mathlib.Core.Bool.{Bool, false, true}
 use mathlib.Core.Logic.{◌↔◌}
 use mathlib.Core.List.{List}

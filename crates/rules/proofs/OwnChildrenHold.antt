@@ -1,12 +1,10 @@
 -- Whether a child of m's own is active, in words.
-use Prim.Native.Nat.{ℕ}
-use mathlib.Core.Path.{◌≡◌, refl}
-use mathlib.Core.Bool.{true}
+use mathlib.Core.Path.{refl}
 use borrow.Author.Tests.{eq-eqb}
 use Rattle.laws.proofs.Bools.{on_and}
 use Rattle.laws.proofs.IndexLaws.{any-elim, any-intro}
 use Rattle.terms.specs.Limits.{most_transactions}
-use Rattle.rules.specs.Promises.{ActiveChild, OwnChildren}
+use Rattle.rules.specs.Promises.{OwnChildren}
 use Rattle.rules.specs.Rules.{active_child, child_active}
 use Rattle.rules.specs.States.{is_active, is_under, parent_of, phase_of}
 use Rattle.rules.proofs.PhaseLaws.{active-is, of-active}

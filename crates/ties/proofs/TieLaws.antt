@@ -14,7 +14,7 @@ use Rattle.sets.specs.Reach.{among}
 use Rattle.ties.specs.declared.Operation.{Operation}
 use Rattle.ties.specs.declared.Ops.{Ops}
 use Rattle.ties.specs.Operations.{is_aborted, op_at, size}
-use Rattle.ties.specs.Ties.{conflict, is_gone, neither_gone, apart, tied_to, tied, counts, edge, ties_of, dirty}
+use Rattle.ties.specs.Ties.{conflict, is_gone, neither_gone, apart, tied_to, tied, counts, edge, ties_of}
 
 -- the parts of a tie
 pub record Tie (ops : Ops) (p q : ℕ) : Type 0 where

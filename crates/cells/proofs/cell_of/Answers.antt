@@ -1,7 +1,6 @@
 use native.Mathlib.Omega.{arith}
 use Rattle.cells.proofs.CellLaws.{cell-back, mark-small, fate-small}
 use Prim.Native.Nat.{◌<◌}
-use borrow.Author.Rules.{rules}
 use Rattle.cells.proofs.cell_of.Lts as lts
 use Rattle.cells.proofs.cell_of.Reads as reads
 use Rattle.cells.proofs.cell_of.Tie as tie

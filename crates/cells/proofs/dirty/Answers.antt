@@ -1,9 +1,5 @@
-use borrow.Author.Rules.{rules}
 use native.Mathlib.Omega.{arith}
-use Prim.Native.Nat.{◌+◌, ◌-◌, ◌≤◌}
-use mathlib.Core.Path.{◌≡◌}
-use mathlib.Core.Bool.{false}
-use Rattle.laws.specs.Index.{any_below}
+use Prim.Native.Nat.{◌+◌}
 use Rattle.laws.proofs.IndexLaws.{any_none, search-hit, search-miss, search-end}
 use Rattle.ties.specs.Operations.{size}
 use Rattle.ties.specs.Ties.{dirty_at, dirty}

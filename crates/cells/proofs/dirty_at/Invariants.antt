@@ -1,11 +1,8 @@
-use borrow.Author.Rules.{rules}
-use native.Mathlib.Omega.{arith}
 use Prim.Native.Nat.{◌-◌, ◌≤◌}
 use mathlib.Core.Path.{◌≡◌}
 use mathlib.Core.Bool.{false}
 use Rattle.laws.specs.Index.{any_below}
-use Rattle.laws.proofs.IndexLaws.{any_none}
-use Rattle.cells.proofs.DirtyLaws.{dirties-in, none_read, found-dirty, not-dirty, none-dirty}
+use Rattle.cells.proofs.DirtyLaws.{dirties-in}
 use Rattle.cells.proofs.dirty_at.Given as goal
 
 abbrev pub invariant-loop-i : goal.invariant-loop-i

@@ -2,7 +2,6 @@ use native.Mathlib.Omega.{arith}
 use Prim.Native.Nat.{min}
 use borrow.Author.Tests.{lt-ltb, le-ltb}
 use Rattle.ties.specs.Operations.{most_operations}
-use borrow.Author.Rules.{rules}
 use Rattle.cells.proofs.dirty_one.Goals as goal
 
 pub returns-then-q-size : goal.returns-then-q-size

@@ -4,7 +4,6 @@ use mathlib.Core.Path.{sym, ap, ◌∙◌}
 use Rattle.ties.specs.Operations.{all_held_by, ended_as, rewritten}
 use Rattle.cells.specs.Cells.{ops_in}
 use Rattle.cells.proofs.CellLaws.{size_in}
-use borrow.Author.Rules.{rules}
 use Rattle.cells.proofs.ended.Goals as goal
 
 pub rewritten-requires : goal.rewritten-requires

@@ -4,7 +4,6 @@ use lib.ListN.{get_or}
 use Rattle.ties.specs.Operations.{ended_alone}
 use Rattle.cells.specs.Cells.{op_in}
 use Rattle.cells.proofs.CellLaws.{op_fits, alone-fits, ended-one-stored, ended-one-past}
-use borrow.Author.Rules.{rules}
 use Rattle.cells.proofs.ended_one.Goals as goal
 
 pub cell_of-requires : goal.cell_of-requires

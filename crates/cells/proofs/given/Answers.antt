@@ -4,7 +4,6 @@ use lib.ListN.{get_or}
 use Rattle.ties.specs.Operations.{given_to}
 use Rattle.cells.specs.Cells.{op_in}
 use Rattle.cells.proofs.CellLaws.{op_fits, given-fits, given-stored, given-past, given-none}
-use borrow.Author.Rules.{rules}
 use Rattle.cells.proofs.given.Goals as goal
 
 pub cell_of-requires : goal.cell_of-requires

@@ -1,7 +1,6 @@
 use native.Mathlib.Omega.{arith}
 use borrow.Author.Tests.{lt-ltb, le-ltb}
 use Rattle.terms.specs.Limits.{most_transactions}
-use borrow.Author.Rules.{rules}
 use Rattle.cells.proofs.handed.Goals as goal
 
 pub rewritten-requires : goal.rewritten-requires

@@ -1,8 +1,6 @@
 use native.Mathlib.Omega.{arith}
 use mathlib.Core.Path.{sym, ◌∙◌}
-use Rattle.laws.proofs.Bools.{on-not, off-not}
 use Rattle.cells.proofs.CellLaws.{made-stored, made_none, made-unfit}
-use borrow.Author.Rules.{rules}
 use Rattle.cells.proofs.made.Goals as goal
 
 pub returns-then-not-fits : goal.returns-then-not-fits

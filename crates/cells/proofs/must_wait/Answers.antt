@@ -1,13 +1,7 @@
-use borrow.Author.Rules.{rules}
 use native.Mathlib.Omega.{arith}
-use Prim.Native.Nat.{ℕ, ◌-◌, ◌≤◌}
-use mathlib.Core.Path.{◌≡◌, sym, ap, ◌∙◌}
-use mathlib.Core.List.{List}
-use mathlib.Core.Bool.{Bool, false}
-use Rattle.laws.specs.Index.{any_below}
+use mathlib.Core.Path.{sym, ap, ◌∙◌}
 use Rattle.laws.proofs.IndexLaws.{any_none, search-hit, search-miss, search-end}
-use Rattle.terms.specs.declared.Mark.{Mark}
-use Rattle.ties.specs.Operations.{op_at, size}
+use Rattle.ties.specs.Operations.{size}
 use Rattle.ties.specs.Ties.{waits_for, must_wait}
 use Rattle.cells.specs.Cells.{ops_in}
 use Rattle.cells.proofs.CellLaws.{op-at, size_in}

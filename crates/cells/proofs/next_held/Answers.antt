@@ -1,12 +1,10 @@
-use borrow.Author.Rules.{rules}
 use native.Mathlib.Omega.{arith}
-use Prim.Native.Nat.{◌-◌, ◌≤◌}
 use mathlib.Core.Bool.{false}
 use mathlib.Core.Path.{◌≡◌, sym, ap, ◌∙◌}
 use Rattle.cells.proofs.next_held.Goals.{then-b-t+else-held_by, else-b-t}
 use Rattle.ties.specs.Operations.{held_by}
 use Rattle.cells.specs.Cells.{held_in}
-use Rattle.cells.proofs.NextLaws.{Passed, passed_none, passed-more, next_here, next-none, not-held}
+use Rattle.cells.proofs.NextLaws.{passed_none, passed-more, next_here, next-none, not-held}
 use Rattle.cells.proofs.next_held.Goals as goal
 
 pub loop-i-init : goal.loop-i-init

@@ -1,11 +1,6 @@
-use borrow.Author.Rules.{rules}
-use native.Mathlib.Omega.{arith}
 use Prim.Native.Nat.{◌-◌, ◌≤◌}
-use mathlib.Core.Path.{sym, ap, ◌∙◌}
-use mathlib.Core.Logic.{⊎_elim}
-use Rattle.ties.specs.Operations.{held_by}
 use Rattle.cells.specs.Cells.{held_in}
-use Rattle.cells.proofs.NextLaws.{Passed, passed_none, passed-more, next_here, next-none, not-held}
+use Rattle.cells.proofs.NextLaws.{Passed}
 use Rattle.cells.proofs.next_held.Given as goal
 
 abbrev pub invariant-loop-i : goal.invariant-loop-i

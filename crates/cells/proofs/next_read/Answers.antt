@@ -1,10 +1,8 @@
-use borrow.Author.Rules.{rules}
 use native.Mathlib.Omega.{arith}
-use Prim.Native.Nat.{◌-◌, ◌≤◌}
 use mathlib.Core.Path.{ap, ◌∙◌}
 use Rattle.ties.specs.Ties.{read_by}
 use Rattle.cells.specs.Cells.{read_in}
-use Rattle.cells.proofs.NextLaws.{Passed, passed_none, passed-more, next_here, next-none}
+use Rattle.cells.proofs.NextLaws.{passed_none, passed-more, next_here, next-none}
 use Rattle.cells.proofs.next_read.Goals as goal
 
 pub loop-i-init : goal.loop-i-init

@@ -1,9 +1,5 @@
-use borrow.Author.Rules.{rules}
 use native.Mathlib.Omega.{arith}
-use Prim.Native.Nat.{◌-◌, ◌≤◌, min}
-use mathlib.Core.Path.{◌≡◌}
-use Rattle.ties.specs.Operations.{most_operations}
-use Rattle.cells.proofs.CellLaws.{Copied, copied_none, copied_more, copied_all}
+use Rattle.cells.proofs.CellLaws.{copied_none, copied_more, copied_all}
 use Rattle.cells.proofs.ops_of.Goals as goal
 
 pub loop-i-init : goal.loop-i-init

@@ -1,12 +1,10 @@
-use borrow.Author.Rules.{rules}
 use native.Mathlib.Omega.{arith}
-use Prim.Native.Nat.{◌+◌, ◌-◌, ◌≤◌, ◌<◌}
-use mathlib.Core.Path.{◌≡◌, ap, ◌∙◌}
-use mathlib.Core.Bool.{true}
+use Prim.Native.Nat.{◌+◌}
+use mathlib.Core.Path.{ap, ◌∙◌}
 use lib.ListN.{get_or, set}
 use Rattle.ties.specs.Operations.{held_by}
-use Rattle.cells.specs.Cells.{op_in, held_in, becomes}
-use Rattle.cells.proofs.CellLaws.{op_fits, becomes-fits, Done, done_none, done_held, done_next, done_all}
+use Rattle.cells.specs.Cells.{op_in, becomes}
+use Rattle.cells.proofs.CellLaws.{op_fits, becomes-fits, done_none, done_held, done_next, done_all}
 use Rattle.cells.proofs.rewritten.Goals as goal
 
 pub next_held-i-requires : goal.next_held-i-requires

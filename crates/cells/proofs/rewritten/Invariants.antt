@@ -1,12 +1,8 @@
-use borrow.Author.Rules.{rules}
-use native.Mathlib.Omega.{arith}
-use Prim.Native.Nat.{◌+◌, ◌-◌, ◌≤◌, ◌<◌}
-use mathlib.Core.Path.{◌≡◌, ap, ◌∙◌}
+use Prim.Native.Nat.{◌-◌, ◌≤◌, ◌<◌}
+use mathlib.Core.Path.{◌≡◌}
 use mathlib.Core.Bool.{true}
-use lib.ListN.{get_or, set}
-use Rattle.ties.specs.Operations.{held_by}
-use Rattle.cells.specs.Cells.{op_in, held_in, becomes}
-use Rattle.cells.proofs.CellLaws.{op_fits, becomes-fits, Done, done_none, done_held, done_next, done_all}
+use Rattle.cells.specs.Cells.{held_in, becomes}
+use Rattle.cells.proofs.CellLaws.{Done}
 use Rattle.cells.proofs.rewritten.Given as goal
 
 abbrev pub invariant-loop-i : goal.invariant-loop-i

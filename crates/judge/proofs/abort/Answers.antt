@@ -1,22 +1,14 @@
-use Prim.Native.Nat.{ℕ}
-use mathlib.Core.Path.{◌≡◌, sym, ◌∙◌}
+use mathlib.Core.Path.{sym, ◌∙◌}
 use mathlib.Core.Bool.{not}
-use mathlib.Core.List.{List}
 use lib.ListN.{drop}
-use Rattle.laws.specs.Lines.{Line}
-use Rattle.terms.specs.declared.Refusal.{Refusal}
 use Rattle.tables.specs.declared.Sort.{Sort}
-use Rattle.tables.specs.declared.Tables.{Tables}
-use Rattle.sheet.specs.Sheet.{Holds}
 use Rattle.rules.specs.Lent.{transactions_in}
 use Rattle.tables.specs.Sorts.{is_known, is_undo}
 use Rattle.rules.specs.Rules.{abort_barred}
 use Rattle.terms.specs.declared.Event.TheVariants.{Abort}
-use Rattle.judge.specs.Judge.{abort_lines, change_of, ruled_by}
-use Rattle.judge.specs.declared.Ruling.{Ruling}
+use Rattle.judge.specs.Judge.{abort_lines, change_of}
 use Rattle.judge.proofs.RuleLaws.{ruled-passed, ruled-stopped}
 use Rattle.judge.proofs.LentLaws.{sorted}
-use borrow.Author.Rules.{rules}
 use Rattle.judge.proofs.abort.Goals as goal
 
 pub returns-then-unknown : goal.returns-then-unknown

@@ -1,7 +1,6 @@
 use mathlib.Core.Path.{ap, ◌∙◌}
 use Rattle.rules.specs.Lent.{transactions_in}
 use Rattle.rules.specs.Rules.{abort_barred}
-use borrow.Author.Rules.{rules}
 use Rattle.judge.proofs.abort_forbidden.Goals as goal
 
 pub returns : goal.returns

@@ -6,7 +6,6 @@ use Rattle.cells.specs.Cells.{ops_in}
 use Rattle.rules.specs.Lent.{transactions_in}
 use Rattle.judge.specs.Judge.{change_of, single_lines}
 use Rattle.judge.proofs.RuleLaws.{shared-refused, shared-passed}
-use borrow.Author.Rules.{rules}
 use Rattle.judge.proofs.abort_one.Goals as goal
 
 pub returns-in_default : goal.returns-in_default

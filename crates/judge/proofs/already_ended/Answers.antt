@@ -3,7 +3,6 @@ use mathlib.Core.Bool.{not}
 use Rattle.ties.specs.Operations.{is_active}
 use Rattle.ties.specs.declared.Operation.{Operation}
 use Rattle.cells.proofs.CellLaws.{op-at}
-use borrow.Author.Rules.{rules}
 use Rattle.judge.proofs.already_ended.Goals as goal
 
 pub returns : goal.returns

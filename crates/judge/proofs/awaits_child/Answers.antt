@@ -4,7 +4,6 @@ use Rattle.laws.proofs.Bools.{off-not, on-not}
 use Rattle.tables.specs.Sorts.{is_plain, sort_of}
 use Rattle.tables.specs.declared.Sort.{Sort}
 use Rattle.judge.proofs.LentLaws.{sorted}
-use borrow.Author.Rules.{rules}
 use Rattle.judge.proofs.awaits_child.Goals as goal
 
 pub returns-then-not_plain : goal.returns-then-not_plain

@@ -4,7 +4,6 @@ use Rattle.rules.specs.Lent.{transactions_in}
 use Rattle.judge.specs.Lent.{Fitting}
 use Rattle.judge.specs.declared.Change.TheVariants.{Nothing, Enters, Ends, EndsOne, Makes, Gives, Hands, Spawns}
 use Rattle.judge.proofs.ChangeLaws.{after, made-fits, given-fits, handed-fits, spawned-fits}
-use borrow.Author.Rules.{rules}
 use Rattle.judge.proofs.changed.Goals as goal
 
 pub returns-in-Nothing : goal.returns-in-Nothing

@@ -1,4 +1,3 @@
-use native.Mathlib.Omega.{arith}
 use mathlib.Core.Path.{◌≡◌, sym, ◌∙◌}
 use Prim.Native.Nat.{ℕ}
 use mathlib.Core.List.{List}
@@ -9,7 +8,6 @@ use Rattle.tables.specs.declared.Sort.{Sort}
 use Rattle.tables.specs.declared.Tables.{Tables}
 use Rattle.sheet.specs.Sheet.{Holds, sort_at}
 use Rattle.judge.proofs.LentLaws.{sorted}
-use borrow.Author.Rules.{rules}
 use Rattle.judge.proofs.clerk_of.Goals as goal
 
 plain : (sheet : List ℕ) (tables : Tables) → Holds tables sheet → (t : ℕ) {r : Bool} → r ≡ not (is_plain (sort_at sheet t)) → r ≡ false → is_plain (sort_of tables t) ≡ true

@@ -1,13 +1,12 @@
 use Prim.Native.Nat.{ℕ}
 use mathlib.Core.List.{List}
-use mathlib.Core.Path.{◌≡◌, sym, ap, ◌∙◌}
+use mathlib.Core.Path.{sym, ap, ◌∙◌}
 use Rattle.cells.specs.Cells.{ops_in}
 use Rattle.rules.specs.Lent.{transactions_in}
 use Rattle.rules.specs.declared.Parent.{Parent}
 use Rattle.tables.specs.declared.Tables.{Tables}
 use Rattle.judge.specs.Judge.{commit_lines_under, commit_under, ruled_by, ruling_of}
 use Rattle.judge.specs.declared.Ruling.{Ruling}
-use borrow.Author.Rules.{rules}
 use Rattle.judge.proofs.commit.Goals as goal
 
 -- what a commit comes to, by whose helper it is

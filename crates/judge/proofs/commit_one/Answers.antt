@@ -9,14 +9,11 @@ use Rattle.terms.specs.declared.Refusal.TheVariants.{DirtyRead, OnRing}
 use Rattle.terms.specs.declared.Event.TheVariants.{CommitOne}
 use Rattle.ties.specs.Ties.{dirty_at, on_ring}
 use Rattle.cells.specs.Cells.{ops_in}
-use Rattle.tables.specs.declared.Tables.{Tables}
-use Rattle.sheet.specs.Sheet.{Holds}
 use Rattle.rules.specs.Lent.{transactions_in}
 use Rattle.rules.specs.States.{is_child}
-use Rattle.judge.specs.Judge.{change_of, clerk_of, commit_one_lines, ruled_by, single_lines, verdict_by}
+use Rattle.judge.specs.Judge.{change_of, clerk_of, single_lines, verdict_by}
 use Rattle.judge.proofs.RuleLaws.{shared-refused, shared-passed, ruled-passed, ruled-stopped}
 use Rattle.judge.proofs.LentLaws.{dirty-told}
-use borrow.Author.Rules.{rules}
 use Rattle.judge.proofs.commit_one.Goals as goal
 
 -- the two lines that are the commit's own, behind those that the abort of one operation has too

@@ -1,27 +1,17 @@
 use native.Mathlib.Omega.{arith}
 use lib.Dec.{eqb}
 use Rattle.laws.proofs.Bools.{off-or}
-use Rattle.terms.specs.Limits.{most_transactions}
-use Rattle.ties.specs.Operations.{most_operations}
-use Prim.Native.Nat.{ℕ, ◌<◌}
-use mathlib.Core.Path.{◌≡◌, sym, ap, ap₂, ◌∙◌}
+use mathlib.Core.Path.{sym, ap, ap₂, ◌∙◌}
 use mathlib.Core.Bool.{Bool, not, ◌||◌}
-use mathlib.Core.List.{List}
 use lib.ListN.{drop}
-use Rattle.laws.specs.Lines.{Line}
-use Rattle.terms.specs.declared.Refusal.{Refusal}
 use Rattle.tables.specs.declared.Sort.{Sort}
-use Rattle.tables.specs.declared.Tables.{Tables}
-use Rattle.sheet.specs.Sheet.{Holds}
 use Rattle.rules.specs.Lent.{transactions_in}
 use Rattle.cells.specs.Cells.{ops_in}
 use Rattle.tables.specs.Sorts.{is_known}
 use Rattle.terms.specs.declared.Event.TheVariants.{Delegate}
-use Rattle.judge.specs.Judge.{change_of, delegate_lines, no_party, ruled_by}
-use Rattle.judge.specs.declared.Ruling.{Ruling}
+use Rattle.judge.specs.Judge.{change_of, delegate_lines, no_party}
 use Rattle.judge.proofs.RuleLaws.{ruled-passed, ruled-stopped}
 use Rattle.judge.proofs.LentLaws.{sorted, accepted-in, known-low, accepted-low}
-use borrow.Author.Rules.{rules}
 use Rattle.judge.proofs.delegate.Goals as goal
 
 pub returns-then-unknown-not_accepted : goal.returns-then-unknown-not_accepted

@@ -5,7 +5,6 @@ use Rattle.ties.specs.Ties.{before_given}
 use Rattle.cells.specs.Cells.{ops_in}
 use Rattle.rules.specs.Lent.{transactions_in}
 use Rattle.rules.proofs.RuleLaws.{ring-some, ring-nobody}
-use borrow.Author.Rules.{rules}
 use Rattle.judge.proofs.gives_a_ring.Goals as goal
 
 pub returns-then-already_ended : goal.returns-then-already_ended

@@ -1,26 +1,14 @@
-use native.Mathlib.Omega.{arith}
-use Prim.Native.Nat.{ℕ, ◌<◌}
-use mathlib.Core.Path.{◌≡◌, sym, ap, ap₂, ◌∙◌}
+use mathlib.Core.Path.{sym, ap₂, ◌∙◌}
 use mathlib.Core.Bool.{not, ◌||◌}
-use mathlib.Core.List.{List}
 use lib.ListN.{drop}
-use Rattle.laws.specs.Lines.{Line}
-use Rattle.terms.specs.declared.Refusal.{Refusal}
 use Rattle.tables.specs.declared.Sort.{Sort}
-use Rattle.tables.specs.declared.Tables.{Tables}
-use Rattle.sheet.specs.Sheet.{Holds}
 use Rattle.rules.specs.Lent.{transactions_in}
 use Rattle.cells.specs.Cells.{ops_in}
-use Rattle.tables.specs.Sorts.{is_known, is_plain}
-use Rattle.rules.specs.Rules.{commit_barred}
-use Rattle.rules.specs.declared.Parent.TheVariants.{Nobody, Under}
-use Rattle.judge.specs.Known.{Ringed}
-use Rattle.judge.specs.Judge.{hand_lines, commit_under, ruled_by}
-use Rattle.judge.specs.declared.Change.{Change}
-use Rattle.judge.specs.declared.Ruling.{Ruling}
+use Rattle.tables.specs.Sorts.{is_known}
+use Rattle.rules.specs.declared.Parent.TheVariants.{Under}
+use Rattle.judge.specs.Judge.{hand_lines, commit_under}
 use Rattle.judge.proofs.RuleLaws.{ruled-passed, ruled-stopped}
 use Rattle.judge.proofs.LentLaws.{sorted}
-use borrow.Author.Rules.{rules}
 use Rattle.judge.proofs.hand_over.Goals as goal
 
 pub returns-then-unknown : goal.returns-then-unknown

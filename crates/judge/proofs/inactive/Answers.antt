@@ -1,7 +1,6 @@
 use mathlib.Core.Path.{ap, ◌∙◌}
 use mathlib.Core.Bool.{not}
 use Rattle.rules.specs.States.{is_active}
-use borrow.Author.Rules.{rules}
 use Rattle.judge.proofs.inactive.Goals as goal
 
 pub returns : goal.returns

@@ -1,6 +1,5 @@
 use mathlib.Core.Path.{ap, ◌∙◌}
 use Rattle.tables.specs.Sorts.{is_undo}
-use borrow.Author.Rules.{rules}
 use Rattle.judge.proofs.is_undo.Goals as goal
 
 pub returns : goal.returns

@@ -2,7 +2,6 @@ use mathlib.Core.Path.{sym, ap, ◌∙◌}
 use mathlib.Core.Bool.{Bool, ◌&&◌}
 use Rattle.ties.specs.Ties.{must_wait}
 use Rattle.cells.specs.Cells.{ops_in}
-use borrow.Author.Rules.{rules}
 use Rattle.judge.proofs.must_wait.Goals as goal
 
 pub returns-then-is_undo : goal.returns-then-is_undo

@@ -1,7 +1,6 @@
 use mathlib.Core.Path.{ap, ap₂, ◌∙◌}
 use mathlib.Core.Bool.{◌||◌}
 use Rattle.tables.specs.Sorts.{is_saga, is_undo}
-use borrow.Author.Rules.{rules}
 use Rattle.judge.proofs.no_party.Goals as goal
 
 pub returns : goal.returns

@@ -1,7 +1,6 @@
 use mathlib.Core.Path.{ap, ◌∙◌}
 use mathlib.Core.Bool.{not}
 use Rattle.tables.specs.Sorts.{is_plain}
-use borrow.Author.Rules.{rules}
 use Rattle.judge.proofs.not_plain.Goals as goal
 
 pub returns : goal.returns

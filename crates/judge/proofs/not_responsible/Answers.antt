@@ -3,7 +3,6 @@ use mathlib.Core.Bool.{not}
 use lib.Dec.{eqb}
 use Rattle.ties.specs.declared.Operation.{Operation}
 use Rattle.cells.proofs.CellLaws.{op-at}
-use borrow.Author.Rules.{rules}
 use Rattle.judge.proofs.not_responsible.Goals as goal
 
 pub returns : goal.returns

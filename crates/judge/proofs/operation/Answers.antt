@@ -2,29 +2,20 @@ use native.Mathlib.Omega.{arith}
 use lib.Dec.{leb}
 use borrow.Author.Tests.{le-leb, lt-leb}
 use Rattle.laws.proofs.Bools.{off-or}
-use Rattle.terms.specs.Limits.{most_transactions, most_objects}
 use Rattle.ties.specs.Operations.{most_operations}
 use Rattle.ties.specs.Ties.{must_wait}
 use Rattle.cells.proofs.CellLaws.{count-in}
-use Prim.Native.Nat.{ℕ, ◌<◌}
-use mathlib.Core.Path.{◌≡◌, sym, ap, ap₂, ◌∙◌}
+use mathlib.Core.Path.{sym, ap, ap₂, ◌∙◌}
 use mathlib.Core.Bool.{not, ◌&&◌, ◌||◌}
-use mathlib.Core.List.{List}
 use lib.ListN.{drop}
-use Rattle.laws.specs.Lines.{Line}
-use Rattle.terms.specs.declared.Refusal.{Refusal}
 use Rattle.tables.specs.declared.Sort.{Sort}
-use Rattle.tables.specs.declared.Tables.{Tables}
-use Rattle.sheet.specs.Sheet.{Holds}
 use Rattle.rules.specs.Lent.{transactions_in}
 use Rattle.cells.specs.Cells.{ops_in}
 use Rattle.tables.specs.Sorts.{is_known, is_saga, is_undo}
 use Rattle.terms.specs.declared.Event.TheVariants.{Operation as Invoke}
-use Rattle.judge.specs.Judge.{change_of, operation_lines, ruled_by}
-use Rattle.judge.specs.declared.Ruling.{Ruling}
+use Rattle.judge.specs.Judge.{change_of, operation_lines}
 use Rattle.judge.proofs.RuleLaws.{ruled-passed, ruled-stopped}
 use Rattle.judge.proofs.LentLaws.{sorted, objected, known-low, object-low}
-use borrow.Author.Rules.{rules}
 use Rattle.judge.proofs.operation.Goals as goal
 
 pub returns-then-unknown-unknown_object : goal.returns-then-unknown-unknown_object

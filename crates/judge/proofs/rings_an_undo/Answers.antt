@@ -3,7 +3,6 @@ use Rattle.ties.specs.Ties.{before_made}
 use Rattle.cells.specs.Cells.{ops_in}
 use Rattle.rules.specs.Lent.{transactions_in}
 use Rattle.rules.proofs.RuleLaws.{ring-some, ring-nobody}
-use borrow.Author.Rules.{rules}
 use Rattle.judge.proofs.rings_an_undo.Goals as goal
 
 pub returns-then-undos-eq0 : goal.returns-then-undos-eq0

@@ -1,7 +1,6 @@
 use mathlib.Core.Path.{sym, ap, ◌∙◌}
 use Rattle.judge.specs.Judge.{ruling_of}
 use Rattle.judge.specs.Lent.{state_in}
-use borrow.Author.Rules.{rules}
 use Rattle.judge.proofs.rule_knowing.Goals as goal
 
 pub returns-in-Begin : goal.returns-in-Begin

@@ -1,24 +1,15 @@
 use Rattle.laws.proofs.Bools.{off-or}
-use Rattle.terms.specs.declared.Verdict.{Verdict}
 use Rattle.terms.specs.declared.Verdict.TheVariants.{Accepted, Refused}
-use Rattle.ties.specs.Operations.{most_operations}
-use Prim.Native.Nat.{ℕ, ◌<◌}
-use mathlib.Core.Path.{◌≡◌, sym, ap, ap₂, ◌∙◌}
+use mathlib.Core.Path.{sym, ap, ap₂, ◌∙◌}
 use mathlib.Core.Bool.{Bool, not, ◌||◌}
-use mathlib.Core.List.{List}
 use lib.ListN.{drop}
-use Rattle.laws.specs.Lines.{Line}
-use Rattle.terms.specs.declared.Refusal.{Refusal}
 use Rattle.tables.specs.declared.Sort.{Sort}
-use Rattle.tables.specs.declared.Tables.{Tables}
-use Rattle.sheet.specs.Sheet.{Holds}
 use Rattle.rules.specs.Lent.{transactions_in}
 use Rattle.cells.specs.Cells.{ops_in}
 use Rattle.tables.specs.Sorts.{is_known, is_plain}
-use Rattle.judge.specs.Judge.{single_lines, verdict_by}
+use Rattle.judge.specs.Judge.{single_lines}
 use Rattle.judge.proofs.LentLaws.{sorted, accepted-in, accepted-low}
 use Rattle.laws.proofs.LineLaws.{passed, stopped}
-use borrow.Author.Rules.{rules}
 use Rattle.judge.proofs.single.Goals as goal
 
 pub returns-then-unknown-not_accepted : goal.returns-then-unknown-not_accepted

@@ -3,7 +3,6 @@ use Rattle.judge.specs.Judge.{judged, state_after}
 use Rattle.judge.specs.Lent.{Fitting, state_in}
 use Rattle.judge.specs.declared.Ruling.{Ruling}
 use Rattle.judge.proofs.ChangeLaws.{ruling-fits}
-use borrow.Author.Rules.{rules}
 use Rattle.judge.proofs.take_knowing.Goals as goal
 
 pub returns : goal.returns

@@ -1,7 +1,6 @@
 use mathlib.Core.Path.{ap, ◌∙◌}
 use mathlib.Core.Bool.{not}
 use Rattle.tables.specs.Sorts.{is_known}
-use borrow.Author.Rules.{rules}
 use Rattle.judge.proofs.unknown.Goals as goal
 
 pub returns : goal.returns

@@ -2,7 +2,6 @@ use Prim.Native.Nat.{ℕ}
 use mathlib.Core.Path.{ap}
 use mathlib.Core.Bool.{not}
 use lib.Dec.{ltb}
-use borrow.Author.Rules.{rules}
 use Rattle.judge.proofs.unknown_object.Goals as goal
 
 pub returns : goal.returns

@@ -1,5 +1,3 @@
-use borrow.Author.Rules.{rules}
-use Prim.Native.Nat.{ℕ}
 use mathlib.Core.Path.{sym, ap, ◌∙◌}
 use Rattle.terms.specs.declared.Event.{Event}
 use Rattle.judge.specs.Known.{with_committer}

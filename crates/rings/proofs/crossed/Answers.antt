@@ -1,5 +1,4 @@
 use mathlib.Core.Path.{sym, ◌∙◌}
-use borrow.Author.Rules.{rules}
 use Rattle.rings.proofs.crossed.Goals as goal
 
 pub returns-then-is_write : goal.returns-then-is_write

@@ -8,7 +8,6 @@ use Rattle.ties.proofs.TieLaws.{ties-small}
 use Rattle.rings.specs.Passes.{read_at}
 use Rattle.rings.proofs.SpreadLaws.{spread-back}
 use Rattle.rings.proofs.LentLaws.{order-read, free-of-rings}
-use borrow.Author.Rules.{rules}
 use Rattle.rings.proofs.on_ring.Goals as goal
 
 pub returns-then-not-preceded : goal.returns-then-not-preceded

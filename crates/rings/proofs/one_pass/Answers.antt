@@ -1,7 +1,6 @@
-use borrow.Author.Rules.{rules}
 use native.Mathlib.Omega.{arith}
-use Prim.Native.Nat.{ℕ, ◌-◌, ◌≤◌}
-use mathlib.Core.Path.{◌≡◌, ap, ◌∙◌}
+use Prim.Native.Nat.{ℕ}
+use mathlib.Core.Path.{ap, ◌∙◌}
 use Rattle.rings.specs.Passes.{pass_to, read_at}
 use Rattle.rings.proofs.LentLaws.{pass-more}
 use Rattle.rings.proofs.one_pass.Goals as goal

@@ -1,10 +1,7 @@
-use borrow.Author.Rules.{rules}
 use native.Mathlib.Omega.{arith}
-use Prim.Native.Nat.{◌-◌, ◌≤◌}
 use mathlib.Core.Path.{sym, ◌∙◌}
-use Rattle.laws.proofs.Bools.{on-not, off-not}
 use Rattle.rings.specs.Passes.{read_at}
-use Rattle.rings.proofs.PrecededLaws.{Free, free-first, free-gone, free_own, free_other, free-met, free-end}
+use Rattle.rings.proofs.PrecededLaws.{free-first, free-gone, free_own, free_other, free-met, free-end}
 use Rattle.rings.proofs.preceded.Goals as goal
 
 pub loop-i-init : goal.loop-i-init

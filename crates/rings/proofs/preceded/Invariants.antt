@@ -1,10 +1,6 @@
-use borrow.Author.Rules.{rules}
-use native.Mathlib.Omega.{arith}
 use Prim.Native.Nat.{◌-◌, ◌≤◌}
-use mathlib.Core.Path.{sym, ◌∙◌}
-use Rattle.laws.proofs.Bools.{on-not, off-not}
 use Rattle.rings.specs.Passes.{read_at}
-use Rattle.rings.proofs.PrecededLaws.{Free, free-first, free-gone, free_own, free_other, free-met, free-end}
+use Rattle.rings.proofs.PrecededLaws.{Free}
 use Rattle.rings.proofs.preceded.Given as goal
 
 abbrev pub invariant-loop-i : goal.invariant-loop-i

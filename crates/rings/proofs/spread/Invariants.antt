@@ -1,15 +1,9 @@
-use Rattle.sets.proofs.SetLaws.{less-members}
-use borrow.Author.Rules.{rules}
-use native.Mathlib.Omega.{arith}
 use Prim.Native.Nat.{ℕ, ◌<◌, ◌-◌, ◌^◌}
-use mathlib.Core.Path.{◌≡◌, sym, ◌∙◌}
 use mathlib.Core.Bool.{Bool}
 use mathlib.Core.List.{List}
 use Rattle.ties.specs.Ties.{ties_of}
-use Rattle.rings.specs.Passes.{pass_to, read_at}
-use Rattle.rings.specs.declared.Pass.{Pass}
-use Rattle.rings.proofs.PassLaws.{Passed, pass-done}
-use Rattle.rings.proofs.SpreadLaws.{Known, known-first, known_more, spread-met, spread-done, spread-less}
+use Rattle.rings.specs.Passes.{read_at}
+use Rattle.rings.proofs.SpreadLaws.{Known}
 use Rattle.rings.proofs.spread.Given as goal
 
 -- who stands before whom

@@ -1,4 +1,3 @@
-use borrow.Author.Rules.{rules}
 use Rattle.rings.proofs.with_some.Goals as goal
 
 pub returns-then-so : goal.returns-then-so

@@ -1,7 +1,6 @@
 use native.Mathlib.Omega.{arith}
 use mathlib.Core.Path.{ap, ◌∙◌}
 use Rattle.ties.specs.Operations.{given_to}
-use borrow.Author.Rules.{rules}
 use Rattle.rows.proofs.given_at.Goals as goal
 
 pub returns-then-q-lt-MOST : goal.returns-then-q-lt-MOST

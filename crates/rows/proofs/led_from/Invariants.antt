@@ -1,16 +1,6 @@
-use borrow.Author.Rules.{rules}
-use native.Mathlib.Omega.{arith}
-use Prim.Native.Nat.{ℕ, ◌-◌, ◌^◌, ◌<◌}
-use mathlib.Core.Path.{◌≡◌, refl, subst⁻¹}
-use mathlib.Core.Bool.{true}
-use lib.Bits.{bit_or}
-use lib.ListN.{get_or}
-use Rattle.laws.proofs.Bools.{clash}
-use Rattle.laws.proofs.Decisions.{lt-or}
-use Rattle.sets.specs.Sets.{mem}
-use Rattle.sets.proofs.SetLaws.{mem-past, lowest-in, less-members}
+use Prim.Native.Nat.{◌-◌, ◌^◌}
 use Rattle.rows.specs.Rows.{mem_at}
-use Rattle.rows.proofs.LedLaws.{Growing, growing-first, growing-more, growing-less, growing-end}
+use Rattle.rows.proofs.LedLaws.{Growing}
 use Rattle.rows.proofs.led_from.Given as goal
 
 abbrev pub invariant-loop-from : goal.invariant-loop-from

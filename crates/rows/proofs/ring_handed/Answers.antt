@@ -4,7 +4,6 @@ use mathlib.Core.Bool.{Bool}
 use Rattle.sets.specs.Sets.{mem}
 use Rattle.ties.specs.Ties.{ring_with}
 use Rattle.rows.proofs.LentLaws.{order-handed}
-use borrow.Author.Rules.{rules}
 use Rattle.rows.proofs.ring_handed.Goals as goal
 
 pub returns : goal.returns

@@ -4,7 +4,6 @@ use Prim.Native.Nat.{ℕ}
 use Rattle.sets.specs.Sets.{mem}
 use Rattle.ties.specs.Ties.{ring_with}
 use Rattle.rows.proofs.LentLaws.{order_made}
-use borrow.Author.Rules.{rules}
 use Rattle.rows.proofs.ring_made.Goals as goal
 
 pub returns : goal.returns

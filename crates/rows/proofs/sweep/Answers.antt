@@ -1,9 +1,8 @@
 use borrow.Author.Rules.{rules}
 use native.Mathlib.Omega.{arith}
-use Prim.Native.Nat.{ℕ, ◌+◌, ◌-◌, ◌≤◌, ◌<◌}
+use Prim.Native.Nat.{ℕ, ◌+◌, ◌-◌}
 use mathlib.Core.Path.{◌≡◌, sym, ap, ◌∙◌, subst, subst⁻¹}
-use Rattle.ties.specs.declared.Operation.{Operation}
-use Rattle.rows.specs.Rows.{handed_by, read_handed, Swept}
+use Rattle.rows.specs.Rows.{handed_by, Swept}
 use Rattle.rows.proofs.sweep.Goals as goal
 
 pub loop-i-init : goal.loop-i-init

@@ -2,7 +2,6 @@ use mathlib.Core.Path.{sym, ap, ◌∙◌}
 use Rattle.rules.specs.Lent.{transactions_in}
 use Rattle.rules.specs.Rules.{abort_barred}
 use Rattle.rules.specs.States.{is_committed}
-use borrow.Author.Rules.{rules}
 use Rattle.rules.proofs.abort_barred.Goals as goal
 
 pub returns-in-Saga : goal.returns-in-Saga

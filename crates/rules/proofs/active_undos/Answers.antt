@@ -1,15 +1,12 @@
-use borrow.Author.Rules.{rules}
 use native.Mathlib.Omega.{arith}
-use Prim.Native.Nat.{ℕ, ◌-◌, ◌≤◌, min}
-use mathlib.Core.Path.{◌≡◌, sym, ap, ◌∙◌}
+use Prim.Native.Nat.{ℕ}
+use mathlib.Core.Path.{sym, ap, ◌∙◌}
 use mathlib.Core.Bool.{and-false}
-use mathlib.Core.Logic.{⊎_elim}
-use Rattle.laws.proofs.Bools.{and_on, on-not}
-use Rattle.terms.specs.Limits.{most_transactions}
+use Rattle.laws.proofs.Bools.{and_on}
 use Rattle.sets.specs.Sets.{set_of}
 use Rattle.sets.proofs.SetLaws.{set-of-none, set-of-in, set-of-out}
 use Rattle.tables.specs.Sorts.{is_undo}
-use Rattle.sheet.specs.Sheet.{sort_at, owned_on}
+use Rattle.sheet.specs.Sheet.{sort_at}
 use Rattle.rules.specs.Lent.{transactions_in}
 use Rattle.rules.specs.Rules.{undo_on}
 use Rattle.rules.specs.States.{is_active, phase_of}

@@ -2,7 +2,6 @@ use mathlib.Core.Path.{sym, ap, ◌∙◌}
 use mathlib.Core.Bool.{not}
 use Rattle.rules.specs.Lent.{transactions_in}
 use Rattle.rules.specs.Rules.{begin_barred}
-use borrow.Author.Rules.{rules}
 use Rattle.rules.proofs.begin_barred.Goals as goal
 
 pub returns-in-Step : goal.returns-in-Step

@@ -1,4 +1,3 @@
-use borrow.Author.Rules.{rules}
 use Rattle.rules.proofs.begin_bars.Goals as goal
 
 pub returns-in-Serial : goal.returns-in-Serial

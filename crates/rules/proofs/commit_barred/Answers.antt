@@ -3,7 +3,6 @@ use mathlib.Core.Bool.{not}
 use Rattle.rules.specs.Lent.{transactions_in}
 use Rattle.rules.specs.Rules.{commit_barred}
 use Rattle.rules.specs.States.{is_active, is_committed}
-use borrow.Author.Rules.{rules}
 use Rattle.rules.proofs.commit_barred.Goals as goal
 
 pub returns-in-Saga : goal.returns-in-Saga

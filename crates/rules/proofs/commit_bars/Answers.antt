@@ -1,4 +1,3 @@
-use borrow.Author.Rules.{rules}
 use Rattle.rules.proofs.commit_bars.Goals as goal
 
 pub returns-in-Commit : goal.returns-in-Commit

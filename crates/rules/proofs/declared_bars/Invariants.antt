@@ -1,16 +1,11 @@
-use borrow.Author.Rules.{rules}
-use native.Mathlib.Omega.{arith}
 use Prim.Native.Nat.{◌-◌, ◌≤◌, min}
-use mathlib.Core.Path.{◌≡◌, refl, sym, ap, ◌∙◌}
+use mathlib.Core.Path.{◌≡◌}
 use mathlib.Core.Bool.{false}
-use mathlib.Core.Logic.{⊎_elim}
 use Rattle.laws.specs.Index.{any_below}
-use Rattle.laws.proofs.IndexLaws.{any_none, search-hit, search-miss, search-end}
 use Rattle.terms.specs.Limits.{most_dependencies}
 use Rattle.sheet.specs.Sheet.{declared_on}
 use Rattle.rules.specs.Lent.{transactions_in}
-use Rattle.rules.specs.Rules.{barred_by}
-use Rattle.rules.proofs.RuleLaws.{bars_on, bars-held, other-dependent, own-dependent}
+use Rattle.rules.proofs.RuleLaws.{bars_on}
 use Rattle.rules.proofs.declared_bars.Given as goal
 
 abbrev pub invariant-loop-i : goal.invariant-loop-i

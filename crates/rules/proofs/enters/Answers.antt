@@ -4,7 +4,6 @@ use mathlib.Core.Path.{ap, ◌∙◌}
 use lib.ListN.{set}
 use Rattle.rules.specs.Lent.{transactions_in}
 use Rattle.rules.proofs.LentLaws.{entered-in, entered-past}
-use borrow.Author.Rules.{rules}
 use Rattle.rules.proofs.enters.Goals as goal
 
 pub returns-then-t-lt-TRANSACTIONS : goal.returns-then-t-lt-TRANSACTIONS

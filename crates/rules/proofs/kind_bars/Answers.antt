@@ -1,7 +1,6 @@
 use mathlib.Core.Path.{sym, ap, ◌∙◌}
 use mathlib.Core.Bool.{Bool}
 use Rattle.rules.specs.Rules.{kind_bars}
-use borrow.Author.Rules.{rules}
 use Rattle.rules.proofs.kind_bars.Goals as goal
 
 pub returns-then-begins : goal.returns-then-begins

@@ -1,10 +1,6 @@
 use native.Mathlib.Omega.{arith}
 use mathlib.Core.Path.{sym, ◌∙◌}
 use Rattle.rules.proofs.LentLaws.{parent-low, parent-past}
-use borrow.Author.Rules.{rules}
-use Rattle.rules.proofs.parent_at.Reads as reads
-use Rattle.rules.proofs.parent_at.Lts as lts
-use Rattle.rules.proofs.parent_in.Reads as parent-in-reads
 use Rattle.rules.proofs.parent_at.Goals as goal
 
 pub returns-then-t-ge-TRANSACTIONS : goal.returns-then-t-ge-TRANSACTIONS

@@ -1,9 +1,6 @@
 use native.Mathlib.Omega.{arith}
 use borrow.Author.Tests.{ne_eqb}
 use Prim.Native.Nat.{◌/◌, ◌%◌}
-use borrow.Author.Rules.{rules}
-use Rattle.rules.proofs.parent_in.Reads as reads
-use Rattle.rules.proofs.parent_in.Lts as lts
 use Rattle.rules.proofs.parent_in.Goals as goal
 
 pub returns-then-k-eq0 : goal.returns-then-k-eq0

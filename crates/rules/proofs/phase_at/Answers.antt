@@ -1,7 +1,6 @@
 use native.Mathlib.Omega.{arith}
 use mathlib.Core.Path.{sym, ◌∙◌}
 use Rattle.rules.proofs.LentLaws.{phase-low, phase-past}
-use borrow.Author.Rules.{rules}
 use Rattle.rules.proofs.phase_at.Goals as goal
 
 pub returns-then-t-ge-TRANSACTIONS : goal.returns-then-t-ge-TRANSACTIONS

@@ -1,16 +1,10 @@
 use native.Mathlib.Omega.{arith}
-use mathlib.Core.Path.{◌≡◌, sym, ap₂, ap, ◌∙◌}
-use mathlib.Core.Bool.{true}
-use Prim.Native.Nat.{ℕ, ◌+◌, ◌*◌, ◌≤◌}
+use mathlib.Core.Path.{sym, ap₂, ◌∙◌}
+use Prim.Native.Nat.{ℕ, ◌+◌, ◌*◌}
 use lib.ListN.{set}
-use Rattle.terms.specs.Limits.{most_transactions}
-use Rattle.rules.specs.Lent.{parent_fits, transactions_in}
+use Rattle.rules.specs.Lent.{transactions_in}
 use Rattle.rules.proofs.LentLaws.{code-small, put-in, put-past, put-none}
 use Rattle.rules.proofs.PhaseLaws.{code-le}
-use borrow.Author.Rules.{rules}
-use Rattle.rules.proofs.Parent.fits.Reads as fits-reads
-use Rattle.rules.proofs.parent_code.Reads as parent-code-reads
-use Rattle.rules.proofs.phase_code.Reads as phase-code-reads
 use Rattle.rules.proofs.put.Goals as goal
 
 pub overflow_mul-transactions : goal.overflow_mul-transactions

@@ -1,6 +1,6 @@
 use native.Mathlib.Omega.{arith}
-use Prim.Native.Nat.{ℕ, ◌-◌, ◌≤◌}
-use mathlib.Core.Path.{◌≡◌, sym, ap, ap₂, ◌∙◌}
+use Prim.Native.Nat.{ℕ}
+use mathlib.Core.Path.{sym, ap, ap₂, ◌∙◌}
 use mathlib.Core.Bool.{◌&&◌, ◌||◌}
 use Rattle.laws.specs.Index.{any_below}
 use Rattle.laws.proofs.IndexLaws.{any_none, any-more}
@@ -9,7 +9,6 @@ use Rattle.rules.specs.Lent.{transactions_in}
 use Rattle.rules.specs.Rules.{undo_on}
 use Rattle.rules.specs.States.{is_active}
 use Rattle.rules.proofs.LentLaws.{phase-low}
-use borrow.Author.Rules.{rules}
 use Rattle.rules.proofs.some_undo_active.Goals as goal
 
 pub loop-t-init : goal.loop-t-init

@@ -4,10 +4,6 @@ use mathlib.Core.Path.{ap, ◌∙◌}
 use lib.ListN.{set}
 use Rattle.rules.specs.Lent.{transactions_in}
 use Rattle.rules.proofs.LentLaws.{spawned-in, spawned-past, spawned-none}
-use borrow.Author.Rules.{rules}
-use Rattle.rules.proofs.spawns.Reads as reads
-use Rattle.rules.proofs.spawns.Lts as lts
-use Rattle.rules.proofs.under_in.Reads as under-in-reads
 use Rattle.rules.proofs.spawns.Goals as goal
 
 pub under_in-requires : goal.under_in-requires

@@ -2,7 +2,6 @@ use native.Mathlib.Omega.{arith}
 use Rattle.rules.specs.Lent.{transactions_in}
 use Rattle.rules.specs.States.{own}
 use Rattle.rules.proofs.RuleLaws.{first_step, later-step}
-use borrow.Author.Rules.{rules}
 use Rattle.rules.proofs.step_begins.Goals as goal
 
 pub returns-then-i-le1 : goal.returns-then-i-le1

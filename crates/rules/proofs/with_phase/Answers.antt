@@ -1,6 +1,5 @@
 use native.Mathlib.Omega.{arith}
 use Rattle.rules.proofs.PhaseLaws.{code-le}
-use borrow.Author.Rules.{rules}
 use Rattle.rules.proofs.with_phase.Goals as goal
 
 pub overflow_add-result : goal.overflow_add-result

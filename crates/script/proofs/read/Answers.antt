@@ -18,6 +18,7 @@ use Rattle.script.proofs.Due.first.Reads as first_reads
 use Rattle.script.proofs.Due.letter.Reads as letter-reads
 use Rattle.script.proofs.field.Reads as field-reads
 use Rattle.script.proofs.line_says.Reads as line-says-reads
+use Rattle.script.proofs.read.Goals.{in-Takes+else-most-m, in-Passed}
 use Rattle.script.proofs.read.Goals as goal
 
 pub returns-then-room-lt-FIELDS : goal.returns-then-room-lt-FIELDS
@@ -77,7 +78,7 @@ returns-in-Unclear c =
     let a = c.args in
     let l = c.loop-at in
     sym (told-unclear a.text.now a.most (length a.room.now) l.room l.due l.n l.number l.at l.invariant.1
-    c.line_end-end.result c.line_end-end.ensures (omega arith) inside.1 _ c.line_says-line.ensures.room_unchanged c.line_says-line.auto.room c.line_says-line.result said.in-Unclear.is)
+    c.line_end-end.result c.line_end-end.ensures (omega arith) inside.1 _ c.line_says-line.ensures.room_unchanged c.line_says-line.auto.room c.line_says-line.result said c.in-Unclear.is)
     ∙ script-room a.most (length a.room.now) a.text.now l.invariant.0
 
 pub overflow_add-at : goal.overflow_add-at
@@ -102,16 +103,16 @@ loop-at-preserved c =
     let a = c.args in
     let l = c.loop-at in (
       l.invariant.0,
-      ⊎_elim
-          (λ w. told-as a.text.now a.most (length a.room.now) _ (l.number + 1) (c.line_end-end.result + 1) (w.due-is ∙ w.after-next.ensures) w.n-is
+      elim c.match-line.branch [
+          | in-Takes+else-most-m w ↦ told-as a.text.now a.most (length a.room.now) _ (l.number + 1) (c.line_end-end.result + 1) (w.due-is ∙ w.after-next.ensures) w.n-is
           (told-takes a.text.now a.most (length a.room.now) l.room l.due l.n l.number l.at l.invariant.1
           c.line_end-end.result c.line_end-end.ensures (omega arith) inside.1 _ c.line_says-line.ensures.room_unchanged c.line_says-line.auto.room c.line_says-line.result said
-          w.in-Takes.m w.in-Takes.loose w.in-Takes.is (omega (arith, w.if-most-m.false)) w.field-first.result w.field-first.ensures))
-          (λ w. told-as a.text.now a.most (length a.room.now) _ (l.number + 1) (c.line_end-end.result + 1) w.due-is w.n-is
+          w.in-Takes.m w.in-Takes.loose w.in-Takes.is (omega (arith, w.if-most-m.false)) w.field-first.result w.field-first.ensures)
+          | in-Passed w ↦ told-as a.text.now a.most (length a.room.now) _ (l.number + 1) (c.line_end-end.result + 1) w.due-is w.n-is
           (told-passed a.text.now a.most (length a.room.now) l.room l.due l.n l.number l.at l.invariant.1
           c.line_end-end.result c.line_end-end.ensures (omega arith) inside.1 _ c.line_says-line.ensures.room_unchanged c.line_says-line.auto.room c.line_says-line.result said
-          w.in-Passed.is))
-          c.match-line.branch,
+          w.in-Passed.is)
+      ],
     )
 
 pub returns : goal.returns

@@ -16,6 +16,7 @@ use Rattle.script.proofs.said_by.Reads as reads
 use Rattle.script.proofs.said_by.Lts as lts
 use Rattle.script.proofs.ended.Reads as ended-reads
 use Rattle.script.proofs.found_by.Reads as found-by-reads
+use Rattle.script.proofs.said_by.Goals.{in-Goes, in-Speaks}
 use Rattle.script.proofs.said_by.Goals as goal
 
 pub loop-i-init : goal.loop-i-init
@@ -39,14 +40,14 @@ loop-i-preserved c =
     let form = a.form.now in
     let line = a.line.now in
     let room = a.room.now in
-    ⊎_elim
-    (λ w. heard-as form line room a.start a.from (l.i + 1) w.room-is w.at-is w.n-is
+    elim c.match-found.branch [
+    | in-Goes w ↦ heard-as form line room a.start a.from (l.i + 1) w.room-is w.at-is w.n-is
     (heard-goes form line room a.start a.from l.i l.n l.at l.room (omega arith) l.invariant w.in-Goes.next
-    (sym (ap (λ (f : Found). found_in f line) w.in-Goes.is) ∙ c.found_by-found.ensures)))
-    (λ w. heard-as form line room a.start a.from (l.i + 1) w.room-is w.at-is w.n-is
+    (sym (ap (λ (f : Found). found_in f line) w.in-Goes.is) ∙ c.found_by-found.ensures))
+    | in-Speaks w ↦ heard-as form line room a.start a.from (l.i + 1) w.room-is w.at-is w.n-is
     (heard-speaks form line room a.start a.from l.i l.n l.at l.room (omega arith) l.invariant w.in-Speaks.v w.in-Speaks.next
-    (sym (ap (λ (f : Found). found_in f line) w.in-Speaks.is) ∙ c.found_by-found.ensures)))
-    c.match-found.branch
+    (sym (ap (λ (f : Found). found_in f line) w.in-Speaks.is) ∙ c.found_by-found.ensures))
+    ]
 
 pub returns-then-not-ended : goal.returns-then-not-ended
 returns-then-not-ended c =

@@ -19,7 +19,7 @@ use Rattle.script.proofs.found_by.Reads as found-by-reads
 use Rattle.script.proofs.said_by.Given as goal
 
 abbrev pub invariant-loop-i : goal.invariant-loop-i
-invariant-loop-i l = Heard l.form l.line l.from l.start l.initial.room l.i l.n l.at l.room
+invariant-loop-i l = Heard l.form l.line l.initial.room l.start l.from l.i l.n l.at l.room
 
 abbrev pub decreases-loop-i : goal.decreases-loop-i
 decreases-loop-i l = length l.form - l.i

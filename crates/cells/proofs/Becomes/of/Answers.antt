@@ -1,7 +1,6 @@
 use mathlib.Core.Path.{sym, ap, ◌∙◌}
 use Rattle.cells.specs.Cells.{becomes}
 use Rattle.cells.specs.declared.Becomes.{Becomes}
-use borrow.Author.Rules.{rules}
 use Rattle.cells.proofs.Becomes.of.Goals as goal
 
 pub returns-in-Ended : goal.returns-in-Ended

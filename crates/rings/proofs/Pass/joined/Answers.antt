@@ -1,7 +1,6 @@
 use mathlib.Core.Path.{ap, ◌∙◌}
 use mathlib.Core.Bool.{Bool}
 use Rattle.rings.specs.Passes.{with_some}
-use borrow.Author.Rules.{rules}
 use Rattle.rings.proofs.Pass.joined.Goals as goal
 
 pub returns : goal.returns

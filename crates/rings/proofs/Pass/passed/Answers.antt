@@ -2,7 +2,6 @@ use mathlib.Core.Path.{sym, ap, ap₂, ◌∙◌}
 use mathlib.Core.Bool.{◌||◌}
 use Rattle.rings.specs.Passes.{joined_by, left_by}
 use Rattle.rings.proofs.CaseLaws.{passed-gone, own-joined, own-left, known_joined, met-joined, not-met}
-use borrow.Author.Rules.{rules}
 use Rattle.rings.proofs.Pass.passed.Goals as goal
 
 pub returns-then-is_gone : goal.returns-then-is_gone

@@ -1,5 +1,4 @@
 use Rattle.ties.specs.Ties.{counts}
-use borrow.Author.Rules.{rules}
 use Rattle.ties.proofs.Operation.counts_with.Goals as goal
 
 pub returns : goal.returns

@@ -1,5 +1,4 @@
 use mathlib.Core.Path.{sym, ◌∙◌}
-use borrow.Author.Rules.{rules}
 use Rattle.ties.proofs.Operation.given_to.Goals as goal
 
 pub returns-then-is_active : goal.returns-then-is_active

@@ -1,4 +1,3 @@
-use borrow.Author.Rules.{rules}
 use Rattle.ties.proofs.Operation.is_gone.Goals as goal
 
 pub returns : goal.returns

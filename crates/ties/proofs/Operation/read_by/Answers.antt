@@ -1,4 +1,3 @@
-use borrow.Author.Rules.{rules}
 use Rattle.ties.proofs.Operation.read_by.Goals as goal
 
 pub returns : goal.returns

@@ -1,5 +1,4 @@
 use Rattle.ties.specs.Ties.{tied_to}
-use borrow.Author.Rules.{rules}
 use Rattle.ties.proofs.Operation.tied_to.Goals as goal
 
 pub returns : goal.returns

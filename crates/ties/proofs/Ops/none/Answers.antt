@@ -1,6 +1,5 @@
 use lib.ListN.{replicate}
 use Rattle.ties.specs.Operations.{most_operations}
-use borrow.Author.Rules.{rules}
 use Rattle.ties.proofs.Ops.none.Goals as goal
 
 pub returns : goal.returns

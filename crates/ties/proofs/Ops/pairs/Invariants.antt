@@ -1,16 +1,8 @@
-use borrow.Author.Rules.{rules}
-use native.Mathlib.Omega.{arith}
-use Prim.Native.Nat.{ℕ, ◌-◌, ◌≤◌}
-use mathlib.Core.Path.{◌≡◌, sym, ap, ◌∙◌}
-use mathlib.Core.Bool.{Bool, true}
-use mathlib.Core.List.{List, []}
-use mathlib.Core.Logic.{⊎_elim}
-use lib.ListN.{get_or, set}
+use Prim.Native.Nat.{◌-◌, ◌≤◌}
+use mathlib.Core.Path.{◌≡◌}
 use Rattle.laws.specs.Index.{grid}
 use Rattle.terms.specs.Limits.{most_transactions}
-use Rattle.ties.specs.Operations.{op_at}
-use Rattle.ties.proofs.TieLaws.{counts-small}
-use Rattle.ties.proofs.TableLaws.{before_by, into, by-none, by_all, into-none, into-all, into-mark, into-skip}
+use Rattle.ties.proofs.TableLaws.{before_by, into}
 use Rattle.ties.proofs.Ops.pairs.Given as goal
 
 -- the ties among the first j operations, and of the first i to operation j, are marked
