@@ -1,10 +1,8 @@
-use native.Mathlib.Omega.{arith}
-use borrow.Author.Rules.{rules}
-use Prim.Native.Nat.{◌-◌, ◌≤◌}
+use Rattle.std.proofs.Common.{◌-◌, ◌≤◌}
 use Rattle.cases.proofs.say_pairs.Given as goal
 
 abbrev pub invariant-loop-b : goal.invariant-loop-b
-invariant-loop-b l = l.b ≤ 64
+invariant-loop-b g l = l.b ≤ 64
 
 abbrev pub decreases-loop-b : goal.decreases-loop-b
-decreases-loop-b l = 64 - l.b
+decreases-loop-b g l = 64 - l.b
