@@ -3,10 +3,10 @@ use borrow.Author.Rules.{rules}
 use Rattle.moves.proofs.list_word.Goals as goal
 
 pub returns-then-saga_committed : goal.returns-then-saga_committed
-returns-then-saga_committed c = let a = c.before.before.args in word_moved a.tables a.state a.i c.before.saga_committed.result c.before.saga_committed.ensures c.if-saga_committed.true
+returns-then-saga_committed c = let a = c.args in word_moved a.tables a.state a.i c.saga_committed.result c.saga_committed.ensures c.if-saga_committed.true
 
 pub returns-then-settled : goal.returns-then-settled
-returns-then-settled c = let a = c.before.before.before.before.args in word_back a.tables a.state a.i c.before.before.before.saga_committed.result c.before.before.before.saga_committed.ensures c.before.settled.result c.before.settled.ensures c.before.before.if-saga_committed.false c.if-settled.true
+returns-then-settled c = let a = c.args in word_back a.tables a.state a.i c.saga_committed.result c.saga_committed.ensures c.settled.result c.settled.ensures c.if-saga_committed.false c.if-settled.true
 
 pub returns : goal.returns
-returns c = let a = c.before.before.before.before.args in word-open a.tables a.state a.i c.before.before.before.saga_committed.result c.before.before.before.saga_committed.ensures c.before.settled.result c.before.settled.ensures c.before.before.if-saga_committed.false c.if-settled.false
+returns c = let a = c.args in word-open a.tables a.state a.i c.saga_committed.result c.saga_committed.ensures c.settled.result c.settled.ensures c.if-saga_committed.false c.if-settled.false

@@ -6,4 +6,4 @@ use borrow.Author.Rules.{rules}
 use Rattle.moves.proofs.move_line.Goals as goal
 
 pub returns : goal.returns
-returns c = let a = c.before.before.before.before.before.before.before.before.before.before.before.before.before.args in let name = c.before.before.before.before.word-2.ensures ∙ ap (with_all (text_of c.before.before.before.before.before.word.result)) (c.before.before.before.before.before.before.before.before.name-name.ensures ∙ ap (name_at a.names.now a.ends.now) c.before.before.before.before.before.before.before.before.before.move_name-at.ensures) in first _ c.before.before.before.before.before.before.before.empty.ensures (then _ _ _ c.before.before.before.before.before.word.ensures (then _ _ _ name (then _ _ _ c.before.before.word-text.ensures (then _ _ _ c.before.with_todo.ensures c.end.ensures))))
+returns c = let a = c.args in let name = c.word-2.ensures ∙ ap (with_all (text_of c.word.result)) (c.name-name.ensures ∙ ap (name_at a.names.now a.ends.now) c.move_name-at.ensures) in first _ c.empty.ensures (then _ _ _ c.word.ensures (then _ _ _ name (then _ _ _ c.word-text.ensures (then _ _ _ c.with_todo.ensures c.end.ensures))))

@@ -4,10 +4,10 @@ use borrow.Author.Rules.{rules}
 use Rattle.moves.proofs.nth_part.Goals as goal
 
 pub returns-then-k-eq0 : goal.returns-then-k-eq0
-returns-then-k-eq0 c = part-itself c.before.args.n c.before.args.k (omega arith)
+returns-then-k-eq0 c = part-itself c.args.n c.args.k (omega arith)
 
 pub returns-then-k-n : goal.returns-then-k-n
-returns-then-k-n c = part_step c.before.before.args.n c.before.before.args.k (omega arith) (omega arith)
+returns-then-k-n c = part_step c.args.n c.args.k (omega arith) (omega arith)
 
 pub returns : goal.returns
-returns c = part-undo c.before.before.args.n c.before.before.args.k (omega arith) (omega arith)
+returns c = part-undo c.args.n c.args.k (omega arith) (omega arith)

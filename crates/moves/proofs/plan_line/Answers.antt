@@ -7,4 +7,4 @@ use borrow.Author.Rules.{rules}
 use Rattle.moves.proofs.plan_line.Goals as goal
 
 pub returns : goal.returns
-returns c = let number = c.before.before.before.number.ensures ∙ ap (λ (n : ℕ). with_all (text_of c.before.before.before.before.word.result) (decimal n)) c.before.before.before.before.before.before.before.number-n.ensures in first _ c.before.before.before.before.before.before.empty.ensures (then _ _ _ c.before.before.before.before.word.ensures (then _ _ _ number (then _ _ _ c.before.word-2.ensures c.end.ensures)))
+returns c = let number = c.number.ensures ∙ ap (λ (n : ℕ). with_all (text_of c.word.result) (decimal n)) c.number-n.ensures in first _ c.empty.ensures (then _ _ _ c.word.ensures (then _ _ _ number (then _ _ _ c.word-2.ensures c.end.ensures)))

@@ -5,7 +5,7 @@ use borrow.Author.Rules.{rules}
 use Rattle.moves.proofs.planned.Goals as goal
 
 pub returns-then-steps-i : goal.returns-then-steps-i
-returns-then-steps-i c = sym (get_or-eq_default c.before.args.steps.now 0 (omega arith))
+returns-then-steps-i c = sym (get_or-eq_default c.args.steps.now 0 (omega arith))
 
 pub overflow_cast-result : goal.overflow_cast-result
-overflow_cast-result c = record { fits = omega (arith, c.shared_slice_known-1.given c.before.before.args.i) }
+overflow_cast-result c = record { fits = omega (arith, c.type_inv.steps c.args.i) }

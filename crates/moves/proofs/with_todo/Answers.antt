@@ -7,13 +7,13 @@ use borrow.Author.Rules.{rules}
 use Rattle.moves.proofs.with_todo.Goals as goal
 
 pub returns-in-Nothing : goal.returns-in-Nothing
-returns-in-Nothing c = let a = c.before.before.before.before.before.before.before.args in c.word.ensures ∙ ap (λ (x : Todo). with_all (text_of a.text) (todo_letters a.names.now a.ends.now a.steps.now a.i x)) (sym c.before.before.enum_told-1.given.1)
+returns-in-Nothing c = let a = c.args in c.word.ensures ∙ ap (λ (x : Todo). with_all (text_of a.text) (todo_letters a.names.now a.ends.now a.steps.now a.i x)) (sym c.in-Nothing.is)
 
 pub returns-in-Begins : goal.returns-in-Begins
-returns-in-Begins c = let a = c.before.before.before.before.before.before.before.before.before.args in then _ _ _ c.before.word-in-Begins.ensures c.with_part.ensures ∙ ap (λ (x : Todo). with_all (text_of a.text) (todo_letters a.names.now a.ends.now a.steps.now a.i x)) (sym c.before.before.before.before.todo-1.given.1)
+returns-in-Begins c = let a = c.args in then _ _ _ c.word-in-Begins.ensures c.with_part.ensures ∙ ap (λ (x : Todo). with_all (text_of a.text) (todo_letters a.names.now a.ends.now a.steps.now a.i x)) (sym c.in-Begins.is)
 
 pub returns-in-Commits : goal.returns-in-Commits
-returns-in-Commits c = let a = c.before.before.before.before.before.before.before.before.before.args in then _ _ _ c.before.word-in-Commits.ensures c.with_part-in-Commits.ensures ∙ ap (λ (x : Todo). with_all (text_of a.text) (todo_letters a.names.now a.ends.now a.steps.now a.i x)) (sym c.before.before.before.before.todo-in-Commits-1.given.1)
+returns-in-Commits c = let a = c.args in then _ _ _ c.word-in-Commits.ensures c.with_part-in-Commits.ensures ∙ ap (λ (x : Todo). with_all (text_of a.text) (todo_letters a.names.now a.ends.now a.steps.now a.i x)) (sym c.in-Commits.is)
 
 pub returns-in-Aborts : goal.returns-in-Aborts
-returns-in-Aborts c = let a = c.before.before.before.before.before.before.before.before.before.args in then _ _ _ c.before.word-in-Aborts.ensures c.with_part-in-Aborts.ensures ∙ ap (λ (x : Todo). with_all (text_of a.text) (todo_letters a.names.now a.ends.now a.steps.now a.i x)) (sym c.before.before.before.before.todo-in-Aborts-1.given.1)
+returns-in-Aborts c = let a = c.args in then _ _ _ c.word-in-Aborts.ensures c.with_part-in-Aborts.ensures ∙ ap (λ (x : Todo). with_all (text_of a.text) (todo_letters a.names.now a.ends.now a.steps.now a.i x)) (sym c.in-Aborts.is)

@@ -6,10 +6,10 @@ use borrow.Author.Rules.{rules}
 use Rattle.moves.proofs.with_word.Goals as goal
 
 pub returns-in-Moved : goal.returns-in-Moved
-returns-in-Moved c = c.word.ensures ∙ ap (λ (x : ListWord). with_all (text_of c.before.before.before.before.args.text) (word_letters x)) (sym c.before.before.enum_told-1.given.1)
+returns-in-Moved c = c.word.ensures ∙ ap (λ (x : ListWord). with_all (text_of c.args.text) (word_letters x)) (sym c.in-Moved.is)
 
 pub returns-in-PutBack : goal.returns-in-PutBack
-returns-in-PutBack c = c.word-in-PutBack.ensures ∙ ap (λ (x : ListWord). with_all (text_of c.before.before.before.before.args.text) (word_letters x)) (sym c.before.before.enum_told-in-PutBack-1.given.1)
+returns-in-PutBack c = c.word-in-PutBack.ensures ∙ ap (λ (x : ListWord). with_all (text_of c.args.text) (word_letters x)) (sym c.in-PutBack.is)
 
 pub returns-in-StillOpen : goal.returns-in-StillOpen
-returns-in-StillOpen c = c.word-in-StillOpen.ensures ∙ ap (λ (x : ListWord). with_all (text_of c.before.before.before.before.args.text) (word_letters x)) (sym c.before.before.enum_told-in-StillOpen-1.given.1)
+returns-in-StillOpen c = c.word-in-StillOpen.ensures ∙ ap (λ (x : ListWord). with_all (text_of c.args.text) (word_letters x)) (sym c.in-StillOpen.is)
