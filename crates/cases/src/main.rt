@@ -12,11 +12,12 @@
 
 use book::Outcome;
 use input::Filled;
-use libc::{STDERR_FILENO, STDIN_FILENO, STDOUT_FILENO};
 use listing::{Listing, Put};
 use mend::Mending;
 use onward::Judgement;
 use replay::Copied;
+use std::io;
+use std::process::ExitCode;
 use tables::Circles;
 use telling::Told;
 use terms::{Book, Refusal};
@@ -30,33 +31,18 @@ enum Way {
 }
 
 // A few words.
-fn say(words: &[u8]) {
-    io::write_all(STDOUT_FILENO, words);
-}
-
-fn say_number(n: usize) {
-    io::print_decimal(STDOUT_FILENO, n as u64);
-}
-
-// A blank and a number.
-fn then_number(n: usize) {
-    say(b" ");
-    say_number(n);
+fn say(rt: &impl Print, words: &[u8]) -> io::Result<()> {
+    rt.write_all(words)
 }
 
 // A word, a number and the end of the line.
-fn say_count(word: &[u8], n: usize) {
-    say(word);
-    then_number(n);
-    say(b"\n");
+fn say_count(rt: &impl Print, word: &str, n: usize) -> io::Result<()> {
+    println!(rt; "{word} {n}")
 }
 
-fn say_refused(refusal: Refusal, events: usize, place: usize) {
-    let number = refusal.number() as usize;
-    say(b"refused");
-    then_number(number);
-    then_number(events);
-    say_count(b"", place);
+fn say_refused(rt: &impl Print, refusal: Refusal, events: usize, place: usize) -> io::Result<()> {
+    let number = refusal.number();
+    println!(rt; "refused {number} {events} {place}")
 }
 
 // Reads a book in one of the ways.
@@ -78,171 +64,167 @@ fn put_listing(way: Way, circles: Circles, bytes: &[u8], room: &mut [u8]) -> Put
     }
 }
 
-fn say_listing_in(way: Way, circles: Circles, bytes: &[u8], room: &mut [u8]) {
+// The first bytes of a room on a line of their own, if it has so many.
+fn say_room(rt: &impl Print, room: &[u8], n: usize) -> io::Result<()> {
+    if n <= room.len() {
+        say(rt, &room[..n])?;
+        say(rt, b"\n")?;
+    }
+    Ok(())
+}
+
+fn say_listing_in(
+    rt: &impl Print,
+    way: Way,
+    circles: Circles,
+    bytes: &[u8],
+    room: &mut [u8],
+) -> io::Result<()> {
     match put_listing(way, circles, bytes, room) {
         Put::Wrote(n) => {
             if n <= room.len() {
-                say(&room[..n]);
+                say(rt, &room[..n])?;
             }
+            Ok(())
         }
-        Put::NoRoom => {}
+        Put::NoRoom => Ok(()),
     }
 }
 
 // The listing, in a room that holds every listing.
-fn say_listing(way: Way, circles: Circles, bytes: &[u8]) {
+fn say_listing(rt: &impl Print, way: Way, circles: Circles, bytes: &[u8]) -> io::Result<()> {
     let mut room = [0u8; Listing::MOST];
-    say_listing_in(way, circles, bytes, &mut room);
+    say_listing_in(rt, way, circles, bytes, &mut room)
 }
 
 // One line for each transaction that a stands before.
-fn say_pairs(a: usize, row: u64) {
+fn say_pairs(rt: &impl Print, a: usize, row: u64) -> io::Result<()> {
     let mut b: usize = 0;
     while b < Book::TRANSACTIONS {
         if sets::member(row, b) {
-            say_number(a);
-            say_count(b"", b);
+            println!(rt; "{a} {b}")?;
         }
         b += 1;
     }
+    Ok(())
 }
 
-fn say_report(judgement: Judgement) {
+fn say_report(rt: &impl Print, judgement: Judgement) -> io::Result<()> {
     let report = report::report_of(judgement.state);
-    say(b"active");
-    then_number(report.active);
-    say_count(b" lowest", report.lowest);
+    let active = report.active;
+    let lowest = report.lowest;
+    println!(rt; "active {active} lowest {lowest}")?;
     let rows = report.before;
     let mut a: usize = 0;
     while a < Book::TRANSACTIONS {
-        say_pairs(a, rows[a]);
+        say_pairs(rt, a, rows[a])?;
         a += 1;
     }
+    Ok(())
 }
 
-// A field on a line of its own.
-fn say_field(field: u32) {
-    say_number(field as usize);
-    say(b"\n");
-}
-
-fn say_fields(fields: &[u32]) {
-    let mut i: usize = 0;
-    while i < fields.len() {
-        say_field(fields[i]);
-        i += 1;
+// Fields, each on a line of its own.
+fn say_fields(rt: &impl Print, fields: &[u32]) -> io::Result<()> {
+    for field in fields {
+        println!(rt; "{field}")?;
     }
+    Ok(())
 }
 
-fn unpack(bytes: &[u8], room: &mut [u32]) {
+fn unpack(rt: &impl Print, bytes: &[u8], room: &mut [u32]) -> io::Result<()> {
     match book::unpack(bytes, room) {
         Outcome::Wrote(n) => {
-            say_count(b"unpacked", n);
+            say_count(rt, "unpacked", n)?;
             if n <= room.len() {
-                say_fields(&room[..n]);
+                say_fields(rt, &room[..n])?;
             }
+            Ok(())
         }
-        Outcome::Refuses(refusal, events, place) => say_refused(refusal, events, place),
+        Outcome::Refuses(refusal, events, place) => say_refused(rt, refusal, events, place),
     }
 }
 
 // How much is left in the state that a book leads to.
-fn say_left(judgement: Judgement) {
+fn say_left(rt: &impl Print, judgement: Judgement) -> io::Result<()> {
     let tables = judgement.tables;
     let state = judgement.state;
     let left = left::left_of(tables, state);
-    say_count(b"left", left);
-}
-
-// A blank and a transaction.
-fn then_transaction(t: u16) {
-    then_number(t as usize);
+    say_count(rt, "left", left)
 }
 
 // The transactions of an order on one line.
-fn say_order(order: &[u16]) {
-    say(b"replay");
-    let mut i: usize = 0;
-    while i < order.len() {
-        then_transaction(order[i]);
-        i += 1;
+fn say_order(rt: &impl Print, order: &[u16]) -> io::Result<()> {
+    print!(rt; "replay")?;
+    for t in order {
+        print!(rt; " {t}")?;
     }
-    say(b"\n");
+    say(rt, b"\n")
 }
 
 // What putting the order to replay in into a lent list answers.
-fn answer_replay(judgement: Judgement, list: &mut [u16]) {
+fn answer_replay(rt: &impl Print, judgement: Judgement, list: &mut [u16]) -> io::Result<()> {
     let state = judgement.state;
     let ops = state.ops;
     match replay::put_order(ops, list) {
         Copied::Wrote(n) => {
             if n <= list.len() {
-                say_order(&list[..n]);
+                say_order(rt, &list[..n])?;
             }
+            Ok(())
         }
-        Copied::NoRoom => say_refused(Refusal::NoRoom, judgement.events, 0),
+        Copied::NoRoom => say_refused(rt, Refusal::NoRoom, judgement.events, 0),
     }
 }
 
 // The order in a list that holds every order.
-fn say_replay(judgement: Judgement) {
+fn say_replay(rt: &impl Print, judgement: Judgement) -> io::Result<()> {
     let mut list = [0u16; Book::TRANSACTIONS];
-    answer_replay(judgement, &mut list);
+    answer_replay(rt, judgement, &mut list)
 }
 
 // What the state comes to: how much is left, the order to replay in, and the report.
-fn say_state(judgement: Judgement) {
-    say_left(judgement);
-    say_replay(judgement);
-    say_report(judgement);
+fn say_state(rt: &impl Print, judgement: Judgement) -> io::Result<()> {
+    say_left(rt, judgement)?;
+    say_replay(rt, judgement)?;
+    say_report(rt, judgement)
 }
 
 // A book whose begin dependencies may not go round in a circle.
-fn answer_book(way: Way, bytes: &[u8], room: &mut [u32]) {
-    say_listing(way, Circles::Forbidden, bytes);
+fn answer_book(rt: &impl Print, way: Way, bytes: &[u8], room: &mut [u32]) -> io::Result<()> {
+    say_listing(rt, way, Circles::Forbidden, bytes)?;
     let opening = book::opening(bytes);
-    say_count(b"opening", opening.len());
-    say_state(judged(way, Circles::Forbidden, bytes));
-    unpack(bytes, room);
+    say_count(rt, "opening", opening.len())?;
+    say_state(rt, judged(way, Circles::Forbidden, bytes))?;
+    unpack(rt, bytes, room)
 }
 
 // A book whose begin dependencies may.
-fn circles_case(way: Way, bytes: &[u8]) {
-    say_listing(way, Circles::Permitted, bytes);
+fn circles_case(rt: &impl Print, way: Way, bytes: &[u8]) -> io::Result<()> {
+    say_listing(rt, way, Circles::Permitted, bytes)?;
     let opening = book::opening_permitting_circles(bytes);
-    say_count(b"opening", opening.len());
-    say_state(judged(way, Circles::Permitted, bytes));
+    say_count(rt, "opening", opening.len())?;
+    say_state(rt, judged(way, Circles::Permitted, bytes))
 }
 
-fn answer_write(fields: &[u32], room: &mut [u8]) {
+fn answer_write(rt: &impl Print, fields: &[u32], room: &mut [u8]) -> io::Result<()> {
     match book::write(fields, room) {
         Outcome::Wrote(n) => {
-            say_count(b"written", n);
-            if n <= room.len() {
-                say(&room[..n]);
-                say(b"\n");
-            }
+            say_count(rt, "written", n)?;
+            say_room(rt, room, n)
         }
-        Outcome::Refuses(refusal, events, place) => say_refused(refusal, events, place),
+        Outcome::Refuses(refusal, events, place) => say_refused(rt, refusal, events, place),
     }
 }
 
 // What mending a book into a room answers.
-fn answer_mend(bytes: &[u8], room: &mut [u8]) {
+fn answer_mend(rt: &impl Print, bytes: &[u8], room: &mut [u8]) -> io::Result<()> {
     match mend::mend(bytes, room) {
-        Mending::Own(kept) => say_count(b"own", kept),
+        Mending::Own(kept) => say_count(rt, "own", kept),
         Mending::Wrote(n, kept, dropped, added) => {
-            say(b"mended");
-            then_number(n);
-            then_number(kept);
-            then_number(dropped);
-            say_count(b"", added);
-            if n <= room.len() {
-                say(&room[..n]);
-                say(b"\n");
-            }
+            println!(rt; "mended {n} {kept} {dropped} {added}")?;
+            say_room(rt, room, n)
         }
-        Mending::Refuses(refusal, kept, place) => say_refused(refusal, kept, place),
+        Mending::Refuses(refusal, kept, place) => say_refused(rt, refusal, kept, place),
     }
 }
 
@@ -274,90 +256,87 @@ fn fields_from(bytes: &[u8], fields: &mut [u32]) -> usize {
     i
 }
 
-fn book_case(way: Way, bytes: &[u8], size: usize) {
+fn book_case(rt: &impl Print, way: Way, bytes: &[u8], size: usize) -> io::Result<()> {
     let mut room = [0u32; 65536];
     if 65536 < size {
-        return;
+        return Ok(());
     }
-    answer_book(way, bytes, &mut room[..size]);
+    answer_book(rt, way, bytes, &mut room[..size])
 }
 
-fn replay_case(bytes: &[u8], size: usize) {
+fn replay_case(rt: &impl Print, bytes: &[u8], size: usize) -> io::Result<()> {
     let mut room = [0u16; 65536];
     if 65536 < size {
-        return;
+        return Ok(());
     }
     let judgement = onward::read(bytes);
-    answer_replay(judgement, &mut room[..size]);
+    answer_replay(rt, judgement, &mut room[..size])
 }
 
-fn write_case(bytes: &[u8], size: usize) {
+fn write_case(rt: &impl Print, bytes: &[u8], size: usize) -> io::Result<()> {
     let mut fields = [0u32; 65537];
     let mut room = [0u8; 65536];
     let n = fields_from(bytes, &mut fields);
     if 65537 < n {
-        return;
+        return Ok(());
     }
     if 65536 < size {
-        return;
+        return Ok(());
     }
-    answer_write(&fields[..n], &mut room[..size]);
+    answer_write(rt, &fields[..n], &mut room[..size])
 }
 
-fn mend_case(bytes: &[u8], size: usize) {
+fn mend_case(rt: &impl Print, bytes: &[u8], size: usize) -> io::Result<()> {
     let mut room = [0u8; 65536];
     if 65536 < size {
-        return;
+        return Ok(());
     }
-    answer_mend(bytes, &mut room[..size]);
+    answer_mend(rt, bytes, &mut room[..size])
 }
 
 // A plan, and a book behind it.
-fn move_case(bytes: &[u8], size: usize) {
+fn move_case(rt: &impl Print, bytes: &[u8], size: usize) -> io::Result<()> {
     if bytes.len() < size {
-        return;
+        return Ok(());
     }
-    match telling::tell(&bytes[..size], &bytes[size..]) {
-        Told::Whole => {}
-        Told::NotWritten => {}
-        Told::NotUnderstood(line) => say_count(b"line", line),
-        Told::TooLong => say(b"too long\n"),
+    match telling::tell(rt, &bytes[..size], &bytes[size..]) {
+        Told::Whole => Ok(()),
+        Told::NotWritten(reason) => Err(reason),
+        Told::NotUnderstood(line) => say_count(rt, "line", line),
+        Told::TooLong => say(rt, b"too long\n"),
     }
 }
 
 // Says that a book is one too many; of another refusal nothing is said.
-fn say_too_many(answer: Answer) {
+fn say_too_many(rt: &impl Print, answer: Answer) -> io::Result<()> {
     if let Answer::TooManyBooks = answer {
-        let number = answer.number() as usize;
-        say_count(b"refused", number);
+        let number = answer.number();
+        return println!(rt; "refused {number}");
     }
+    Ok(())
 }
 
 // The totals with a book more.
-fn with_book(totals: Totals, book: &[u8]) -> Totals {
+fn with_book(rt: &impl Print, totals: Totals, book: &[u8]) -> io::Result<Totals> {
     let added = totals::add(totals, book);
     let answer = added.answer;
     let sum = added.totals;
-    say_too_many(answer);
-    sum
+    say_too_many(rt, answer)?;
+    Ok(sum)
 }
 
-fn say_totals(totals: Totals) {
+fn say_totals(rt: &impl Print, totals: Totals) -> io::Result<()> {
     let share = totals.share();
-    say(b"figures");
-    then_number(totals.books as usize);
-    then_number(totals.refused as usize);
-    then_number(totals.begun as usize);
-    then_number(totals.committed as usize);
-    then_number(totals.backed as usize);
-    then_number(totals.unsettled as usize);
-    say(b" share");
-    then_number(share.part as usize);
-    say_count(b"", share.whole as usize);
+    let (books, refused) = (totals.books, totals.refused);
+    let (begun, committed) = (totals.begun, totals.committed);
+    let (backed, unsettled) = (totals.backed, totals.unsettled);
+    let (part, whole) = (share.part, share.whole);
+    print!(rt; "figures {books} {refused} {begun} {committed} {backed} {unsettled}")?;
+    println!(rt; " share {part} {whole}")
 }
 
 // The books of a term; a length or a book that is torn at the end is none.
-fn term_case(bytes: &[u8]) {
+fn term_case(rt: &impl Print, bytes: &[u8]) -> io::Result<()> {
     let mut totals = Totals::none();
     let mut at: usize = 0;
     while 3 <= bytes.len() - at {
@@ -367,33 +346,33 @@ fn term_case(bytes: &[u8]) {
             break;
         }
         let end = start + length;
-        let sum = with_book(totals, &bytes[start..end]);
+        let sum = with_book(rt, totals, &bytes[start..end])?;
         totals = sum;
         at = end;
     }
-    say_totals(totals);
+    say_totals(rt, totals)
 }
 
 // One case by its letter.
-fn answer(letter: u8, bytes: &[u8], size: usize) {
+fn answer(rt: &impl Print, letter: u8, bytes: &[u8], size: usize) -> io::Result<()> {
     if letter == b'w' {
-        write_case(bytes, size);
+        write_case(rt, bytes, size)
     } else if letter == b'c' {
-        circles_case(Way::On, bytes);
+        circles_case(rt, Way::On, bytes)
     } else if letter == b'g' {
-        circles_case(Way::ToFirstRefusal, bytes);
+        circles_case(rt, Way::ToFirstRefusal, bytes)
     } else if letter == b'f' {
-        book_case(Way::ToFirstRefusal, bytes, size);
+        book_case(rt, Way::ToFirstRefusal, bytes, size)
     } else if letter == b'r' {
-        replay_case(bytes, size);
+        replay_case(rt, bytes, size)
     } else if letter == b'm' {
-        move_case(bytes, size);
+        move_case(rt, bytes, size)
     } else if letter == b'd' {
-        mend_case(bytes, size);
+        mend_case(rt, bytes, size)
     } else if letter == b't' {
-        term_case(bytes);
+        term_case(rt, bytes)
     } else {
-        book_case(Way::On, bytes, size);
+        book_case(rt, Way::On, bytes, size)
     }
 }
 
@@ -402,53 +381,56 @@ fn answer(letter: u8, bytes: &[u8], size: usize) {
 enum Came {
     Whole,
     Torn,
-    NotRead,
-    NotWritten,
+    NotRead(io::Error),
+    NotWritten(io::Error),
 }
 
 // Fills a part of the input; it is torn if the input ends before.
-fn read_part(part: &mut [u8]) -> Came {
-    match input::fill(STDIN_FILENO, part) {
+fn read_part(rt: &impl Input, part: &mut [u8]) -> Came {
+    match input::fill(&mut rt.reader(), part) {
         Filled::Whole(n) => {
             if n < part.len() {
                 return Came::Torn;
             }
             Came::Whole
         }
-        Filled::Failed => Came::NotRead,
+        Filled::Failed(reason) => Came::NotRead(reason),
     }
 }
 
-// Sets errno to 0, as asking for a word that is there does.
-fn clear_errno() {
-    let mut name = io::buffer();
-    os::arg(0, &mut name);
+// Says which case it is, and answers it.
+fn say_case(rt: &impl Print, k: usize, letter: u8, bytes: &[u8], size: usize) -> io::Result<()> {
+    say_count(rt, "== case", k)?;
+    answer(rt, letter, bytes, size)
 }
 
-// Answers case k. A write that fails sets errno, and one that does not leaves it; so one look at the end is enough.
-fn answer_whole(k: usize, letter: u8, bytes: &[u8], size: usize) -> Came {
-    clear_errno();
-    say_count(b"== case", k);
-    answer(letter, bytes, size);
-    if os::errno() != 0 {
-        return Came::NotWritten;
+// Answers case k.
+fn answer_whole(rt: &impl Print, k: usize, letter: u8, bytes: &[u8], size: usize) -> Came {
+    match say_case(rt, k, letter, bytes, size) {
+        Ok(()) => Came::Whole,
+        Err(reason) => Came::NotWritten(reason),
     }
-    Came::Whole
 }
 
 // Fills a part with the bytes of case k and answers it.
-fn read_and_answer(k: usize, letter: u8, part: &mut [u8], size: usize) -> Came {
-    let came = read_part(part);
+fn read_and_answer(
+    rt: &(impl Input + Print),
+    k: usize,
+    letter: u8,
+    part: &mut [u8],
+    size: usize,
+) -> Came {
+    let came = read_part(rt, part);
     let Came::Whole = came else {
         return came;
     };
-    answer_whole(k, letter, part, size)
+    answer_whole(rt, k, letter, part, size)
 }
 
 // Reads case k and answers it.
-fn one_case(k: usize) -> Came {
+fn one_case(rt: &(impl Input + Print), k: usize) -> Came {
     let mut head = [0u8; 7];
-    let came = read_part(&mut head);
+    let came = read_part(rt, &mut head);
     let Came::Whole = came else {
         return came;
     };
@@ -458,47 +440,55 @@ fn one_case(k: usize) -> Came {
     if 262148 < length {
         return Came::Torn;
     }
-    read_and_answer(k, head[0], &mut bytes[..length], size)
+    read_and_answer(rt, k, head[0], &mut bytes[..length], size)
 }
 
 // How the run ended, if it did not end well: what is torn is an answer, what failed is not.
-fn say_end(came: Came) {
+fn say_end(rt: &(impl Print + Eprint), came: Came) -> ExitCode {
     match came {
-        Came::Whole => {}
-        Came::Torn => say(b"torn\n"),
-        Came::NotRead => os::fail(b"cases: the input was not read"),
-        Came::NotWritten => os::fail(b"cases: the answers were not written whole"),
+        Came::Whole => ExitCode::SUCCESS,
+        Came::Torn => match say(rt, b"torn\n") {
+            Ok(()) => ExitCode::SUCCESS,
+            Err(reason) => not_written(rt, reason),
+        },
+        Came::NotRead(reason) => {
+            input::fail(rt, "cases: the input was not read", reason);
+            ExitCode::SUCCESS
+        }
+        Came::NotWritten(reason) => not_written(rt, reason),
     }
 }
 
+fn not_written(rt: &impl Eprint, reason: io::Error) -> ExitCode {
+    input::not_written(rt, "cases: the answers were not written whole", reason)
+}
+
 // Answers so many cases one after another, up to one that is torn or fails.
-fn answer_all(cases: usize) -> Came {
-    let mut k: usize = 0;
-    while k < cases {
-        let came = one_case(k);
+fn answer_all(rt: &(impl Input + Print), cases: usize) -> Came {
+    for k in 0..cases {
+        let came = one_case(rt, k);
         let Came::Whole = came else {
             return came;
         };
-        k += 1;
     }
     Came::Whole
 }
 
 // The input begins with the number of cases.
-fn read_and_answer_all() -> Came {
+fn read_and_answer_all(rt: &(impl Input + Print)) -> Came {
     let mut head = [0u8; 3];
-    let came = read_part(&mut head);
+    let came = read_part(rt, &mut head);
     let Came::Whole = came else {
         return came;
     };
-    answer_all(three(head[0], head[1], head[2]))
+    answer_all(rt, three(head[0], head[1], head[2]))
 }
 
-fn main() {
-    if 1 < os::arg_count() {
-        io::write_all(STDERR_FILENO, b"usage: cases < CASES\n");
-        return;
+fn main(rt: HostRuntime) -> ExitCode {
+    if input::has_word(&rt, 1) {
+        let _ = eprintln!(rt; "usage: cases < CASES");
+        return ExitCode::SUCCESS;
     }
-    let came = read_and_answer_all();
-    say_end(came);
+    let came = read_and_answer_all(&rt);
+    say_end(&rt, came)
 }

@@ -12,7 +12,6 @@ use Rattle.laws.proofs.Bools.{and-off, and_on, clash}
 use Rattle.laws.proofs.Decisions.{lt-or}
 use Rattle.terms.specs.Limits.{most_transactions}
 use Rattle.terms.specs.declared.Verdict.TheVariants.{Accepted}
-use Rattle.sets.specs.Reach.{at}
 use Rattle.tables.specs.Accepted.{Well}
 use Rattle.tables.specs.Sorts.{first_of, is_plain, sort_of, steps_of}
 use Rattle.tables.specs.declared.Tables.{Tables}

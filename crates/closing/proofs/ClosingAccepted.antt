@@ -13,7 +13,6 @@ use Rattle.laws.proofs.Bools.{and-off, and_on, bool_cases, clash, not-off, on_an
 use Rattle.laws.proofs.IndexLaws.{any-off}
 use Rattle.terms.specs.Limits.{most_dependencies, most_transactions}
 use Rattle.terms.specs.declared.Verdict.TheVariants.{Accepted}
-use Rattle.sets.specs.Reach.{at}
 use Rattle.tables.specs.Accepted.{Well}
 use Rattle.tables.specs.Dependencies.{dependency_at, kind_number, may_depend}
 use Rattle.tables.specs.Sorts.{first_of, is_plain, number_of_all, sort_of, steps_of}

@@ -37,7 +37,7 @@ use Rattle.closing.specs.Demand.{Beginning, Closes, Demand, Demand3, Demand3Read
 use Rattle.closing.proofs.Acts.{Acts, acts, mine-on, moved, quiet}
 use Rattle.closing.proofs.ClosingAccepted.{accept, does}
 use Rattle.closing.proofs.Moves.{Move, abort-saga, abort_step, begin-saga, begin-step, begin_undo, commit-saga, commit-step, commit_undo, moved_at}
-use Rattle.closing.proofs.Order.{Fair, fair, fair-kept, fair-start, in_order}
+use Rattle.closing.proofs.Order.{Fair, fair-kept, fair-start, in_order}
 use Rattle.closing.proofs.OutstandingLaws.{bound, closes, closing_of, move_event, none_left, outstanding_of, settled-zero, settled_of, zero_settled}
 use Rattle.closing.proofs.Shapes.{begun}
 use Rattle.closing.proofs.UndoTies.{Tidy, tidy-kept, tidy-start}

@@ -11,7 +11,6 @@ use Rattle.laws.specs.Index.{highest, one, sum_to}
 use Rattle.laws.proofs.Bools.{and-off, and_on, and-rest, bool_cases, clash, not-off, off-not, on_and}
 use Rattle.laws.proofs.Decisions.{lt-or, same_or}
 use Rattle.laws.proofs.HighestLaws.{Highest, highest-none, highest-same, highest-some, none-highest, sum-le, sum_less, sum_same, sum-zero, zero-sum}
-use Rattle.sets.specs.Reach.{at}
 use Rattle.rules.specs.Rules.{undone}
 use Rattle.rules.specs.States.{is_active, is_committed}
 use Rattle.terms.specs.declared.Event.{Event}

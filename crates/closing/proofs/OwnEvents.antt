@@ -7,7 +7,6 @@ use lib.Dec.{ltb, leb}
 use borrow.Author.Tests.{ltb-true, lt-leb}
 use Rattle.laws.proofs.Bools.{clash, off-not, on_and, on-not, or-rest}
 use Rattle.laws.proofs.Decisions.{by_place}
-use Rattle.sets.specs.Reach.{at}
 use Rattle.tables.specs.Sorts.{first_of, is_plain, sort_of, steps_of}
 use Rattle.tables.specs.declared.Sort.TheVariants.{Saga as SagaItself}
 use Rattle.tables.specs.declared.Tables.{Tables}

@@ -23,7 +23,7 @@ use Rattle.rules.proofs.PhaseLaws.{aborted_is, active-not, code, committed_is, o
 use Rattle.judge.specs.Judge.{change_of, judged, state_after}
 use Rattle.histories.specs.Histories.{history, reached, run}
 use Rattle.histories.proofs.RunLaws.{keeps}
-use Rattle.closing.specs.Closing.{active_step, own_of, settled}
+use Rattle.closing.specs.Closing.{active_step, own_of}
 use Rattle.closing.specs.Demand.{back_run, commits_of, downs, ups, whole_run}
 use Rattle.closing.specs.Settling.{SettledRun, SettledRuns}
 use Rattle.closing.proofs.Acts.{Acts, acts, moved, quiet}

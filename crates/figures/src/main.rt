@@ -4,185 +4,183 @@
 // more than 1,000; that, and what was not written or understood, is said on standard error, and nothing else stands there.
 #![tactic(auto)]
 
-use input::Filled;
-use libc::{STDERR_FILENO, STDOUT_FILENO};
+use input::{Filled, Reason};
 use listing::{Put, Text};
 use meeting::Row;
+use std::env::{Env, FillError};
+use std::io;
+use std::io::Read;
+use std::process::ExitCode;
+use std::rt::Files;
 use totals::{Answer, Totals};
-
-// The totals with a book, and whether all was written that there is to say of it.
-#[derive(Drop)]
-struct Counted {
-    totals: Totals,
-    written: bool,
-}
-
-// A few words on standard error.
-fn warn(words: &[u8]) {
-    io::write_all(STDERR_FILENO, words);
-}
-
-// A few words on standard output; whether all of them were taken.
-fn say(words: &[u8]) -> bool {
-    io::write_all(STDOUT_FILENO, words)
-}
 
 // ---- one book
 
-// The line of a refused book, by its name; whether all of it was taken. 0 is no refusal.
-fn say_refused(name: &[u8], number: u8) -> bool {
+// The line of a refused book, by its name. 0 is no refusal.
+fn say_refused(out: &impl Print, name: &[u8], number: u8) -> io::Result<()> {
     if number == 0 {
-        return true;
+        return Ok(());
     }
-    if !say(b"refused ") {
-        return false;
-    }
-    if !io::print_decimal(STDOUT_FILENO, number as u64) {
-        return false;
-    }
-    if !say(b" ") {
-        return false;
-    }
-    if !say(name) {
-        return false;
-    }
-    say(b"\n")
+    print!(out; "refused {number} ")?;
+    out.write_all(name)?;
+    out.write_all(b"\n")
 }
 
-// What is to be said of a book that was read; whether all of it was taken.
-fn say_answer(name: &[u8], answer: Answer) -> bool {
+// Says of a book on standard error what is to be said of it behind its name; a name need not be text.
+fn warn(err: &impl Print, name: &[u8], words: &str) {
+    let _ = err.write_all(b"figures: ");
+    let _ = err.write_all(name);
+    let _ = println!(err; " {words}");
+}
+
+// What is to be said of a book that was read.
+fn say_answer(
+    out: &impl Print,
+    err: &impl Print,
+    name: &[u8],
+    answer: Answer,
+) -> io::Result<()> {
     match answer {
-        Answer::Counted(verdict) => say_refused(name, verdict.number()),
+        Answer::Counted(verdict) => say_refused(out, name, verdict.number()),
         Answer::TooManyBooks => {
-            warn(b"figures: ");
-            warn(name);
-            warn(b" is refused by 23, and not counted: 1000 books are\n");
-            true
+            warn(err, name, "is refused by 23, and not counted: 1000 books are");
+            Ok(())
         }
     }
 }
 
 // Adds a book that was read.
-fn add_read(totals: Totals, name: &[u8], book: &[u8]) -> Counted {
+fn add_read(
+    out: &impl Print,
+    err: &impl Print,
+    totals: Totals,
+    name: &[u8],
+    book: &[u8],
+) -> io::Result<Totals> {
     let added = totals::add(totals, book);
     let answer = added.answer;
     let sum = added.totals;
-    let written = say_answer(name, answer);
-    Counted {
-        totals: sum,
-        written,
-    }
+    say_answer(out, err, name, answer)?;
+    Ok(sum)
 }
 
-// The book of this name was not read, and is not counted; errno has the reason.
-fn not_read(totals: Totals, name: &[u8]) -> Counted {
-    warn(b"figures: ");
-    warn(name);
-    os::fail(b" was not read");
-    Counted {
-        totals,
-        written: true,
-    }
+// The book of this name was not read, for this reason, and is not counted.
+fn say_not_read(err: &impl Print, name: &[u8], reason: io::Error) {
+    let reason = Reason(reason);
+    let _ = err.write_all(b"figures: ");
+    let _ = err.write_all(name);
+    let _ = println!(err; " was not read: {reason}");
 }
 
 // Reads the book from a file and adds it. One byte more than a book may have is enough to know that it is too long.
-fn add_from(totals: Totals, name: &[u8], file: i32) -> Counted {
+fn add_from(
+    out: &impl Print,
+    err: &impl Print,
+    totals: Totals,
+    name: &[u8],
+    mut file: impl Read + Drop,
+) -> io::Result<Totals> {
     let mut bytes = [0u8; 65537];
-    let filled = input::fill(file, &mut bytes);
-    let Filled::Whole(n) = filled else {
-        return not_read(totals, name);
-    };
-    add_read(totals, name, &bytes[..n])
+    match input::fill(&mut file, &mut bytes) {
+        Filled::Whole(n) => add_read(out, err, totals, name, &bytes[..n]),
+        Filled::Failed(reason) => {
+            say_not_read(err, name, reason);
+            Ok(totals)
+        }
+    }
 }
 
 // Opens the book of this name and adds it.
-fn add_named(totals: Totals, name: &[u8]) -> Counted {
-    let file = os::open_read(name);
-    if file < 0 {
-        return not_read(totals, name);
+fn add_named(
+    rt: &(impl Files + Print),
+    err: &impl Print,
+    totals: Totals,
+    name: &[u8],
+) -> io::Result<Totals> {
+    match input::open(rt, name) {
+        Ok(file) => add_from(rt, err, totals, name, file),
+        Err(reason) => {
+            say_not_read(err, name, reason);
+            Ok(totals)
+        }
     }
-    let counted = add_from(totals, name, file);
-    libc::close(file);
-    counted
 }
 
-// A name that is longer than the system takes is told as it is: cut off.
-fn add_word(totals: Totals, i: usize) -> Counted {
-    let mut name = io::buffer();
-    let n = os::arg(i, &mut name);
-    if os::errno() != 0 {
-        return not_read(totals, &name);
+// What the system says of a name that is longer than it takes.
+fn name_too_long() -> io::Error {
+    io::Error::from_raw_os_error(36)
+}
+
+// The totals with the book that a word names, or none where there is no such word. A name that is longer than the system takes is told as it is: cut off.
+fn add_word(
+    rt: &(impl Env + Files + Print),
+    err: &impl Print,
+    totals: Totals,
+    i: usize,
+) -> io::Result<Option<Totals>> {
+    let mut name = [0u8; 4096];
+    match rt.arg(i, &mut name) {
+        Ok(n) => Ok(Some(add_named(rt, err, totals, &name[..n])?)),
+        Err(FillError::TooLong) => {
+            say_not_read(err, &name, name_too_long());
+            Ok(Some(totals))
+        }
+        Err(FillError::NotPresent) => Ok(None),
     }
-    add_named(totals, &name[..n])
 }
 
 // ---- the table
 
-// Writes a row; whether all of it was taken.
-fn print_row(totals: Totals, row: Row) -> bool {
+// Writes a row.
+fn print_row(out: &impl Print, totals: Totals, row: Row) -> io::Result<()> {
     let text = meeting::row_line(totals, row);
     let mut room = [0u8; Text::MOST];
     let Put::Wrote(n) = text.put(&mut room) else {
-        return false;
+        return Err(io::Error::other("there is no room for a row"));
     };
-    say(&room[..n])
+    out.write_all(&room[..n])
 }
 
-// How many books were read and refused; whether all was taken.
-fn print_books(totals: Totals) -> bool {
-    if !print_row(totals, Row::BooksRead) {
-        return false;
-    }
-    print_row(totals, Row::BooksRefused)
+// How many books were read and refused.
+fn print_books(out: &impl Print, totals: Totals) -> io::Result<()> {
+    print_row(out, totals, Row::BooksRead)?;
+    print_row(out, totals, Row::BooksRefused)
 }
 
-// How the moves stand; whether all was taken.
-fn print_moves(totals: Totals) -> bool {
-    if !print_row(totals, Row::Begun) {
-        return false;
-    }
-    if !print_row(totals, Row::Committed) {
-        return false;
-    }
-    if !print_row(totals, Row::BackedOut) {
-        return false;
-    }
-    if !print_row(totals, Row::StillOpen) {
-        return false;
-    }
-    print_row(totals, Row::OfThoseBegun)
+// How the moves stand.
+fn print_moves(out: &impl Print, totals: Totals) -> io::Result<()> {
+    print_row(out, totals, Row::Begun)?;
+    print_row(out, totals, Row::Committed)?;
+    print_row(out, totals, Row::BackedOut)?;
+    print_row(out, totals, Row::StillOpen)?;
+    print_row(out, totals, Row::OfThoseBegun)
 }
 
-// Writes the table; whether all of it was taken.
-fn print_table(totals: Totals) -> bool {
-    if !print_books(totals) {
-        return false;
-    }
-    print_moves(totals)
+// Writes the table.
+fn print_table(out: &impl Print, totals: Totals) -> io::Result<()> {
+    print_books(out, totals)?;
+    print_moves(out, totals)
 }
 
-// Adds the books that the words name, one after another, and writes the table; whether all was taken.
-fn tell(words: usize) -> bool {
+// Adds the books that the words name, one after another, and writes the table.
+fn tell(rt: &(impl Env + Files + Print), err: &impl Print) -> io::Result<()> {
     let mut totals = Totals::none();
-    let mut i: usize = 1;
-    while i < words {
-        let counted = add_word(totals, i);
-        if !counted.written {
-            return false;
+    for i in 1..usize::MAX {
+        match add_word(rt, err, totals, i)? {
+            Some(sum) => totals = sum,
+            None => break,
         }
-        totals = counted.totals;
-        i += 1;
     }
-    print_table(totals)
+    print_table(rt, totals)
 }
 
-fn main() {
-    let words = os::arg_count();
-    if words <= 1 {
-        warn(b"usage: figures BOOK ..\n");
-        return;
+fn main(rt: HostRuntime) -> ExitCode {
+    if !input::has_word(&rt, 1) {
+        let _ = eprintln!(rt; "usage: figures BOOK ..");
+        return ExitCode::SUCCESS;
     }
-    if !tell(words) {
-        os::fail(b"figures: the table was not written whole");
+    match tell(&rt, &rt.stderr()) {
+        Ok(()) => ExitCode::SUCCESS,
+        Err(reason) => input::not_written(&rt, "figures: the table was not written whole", reason),
     }
 }

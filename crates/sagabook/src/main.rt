@@ -29,13 +29,13 @@ enum Asked {
 
 // What a word asks for.
 fn wish_of(word: &[u8]) -> Asked {
-    if word == b"permit-circles" {
+    if word == b"permit-circles".as_slice() {
         return Asked::For(Wish::ListingWithCircles);
     }
-    if word == b"first-refusal" {
+    if word == b"first-refusal".as_slice() {
         return Asked::For(Wish::ToFirstRefusal);
     }
-    if word == b"replay" {
+    if word == b"replay".as_slice() {
         return Asked::For(Wish::Order);
     }
     Asked::Unknown

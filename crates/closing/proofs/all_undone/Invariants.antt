@@ -1,18 +1,10 @@
-use borrow.Author.Rules.{rules}
-use native.Mathlib.Omega.{arith}
-use mathlib.Core.Path.{◌≡◌, refl, sym, ap, ap₂, ◌∙◌}
+use mathlib.Core.Path.{◌≡◌}
 use mathlib.Core.Bool.{Bool, not, ◌&&◌}
 use Prim.Native.Nat.{ℕ, ◌≤◌}
-use lib.Dec.{eqb, ltb}
-use borrow.Author.Tests.{ne_eqb}
 use Rattle.laws.specs.Index.{highest}
 use Rattle.rules.specs.States.{is_committed, own}
 use Rattle.rules.specs.Rules.{undone}
 use Rattle.rules.specs.declared.Phase.{Phase}
-use Rattle.laws.proofs.StepLaws.{down-hit, down-miss, down-end}
-use Rattle.closing.proofs.all_undone.Lts as lts
-use Rattle.closing.proofs.all_undone.Reads as reads
-use Rattle.closing.proofs.all_undone.Tie as tie
 use Rattle.closing.proofs.all_undone.Given as goal
 
 -- step i is committed and not undone

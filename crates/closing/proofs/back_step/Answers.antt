@@ -5,7 +5,6 @@ use Rattle.rules.specs.States.{own}
 use Rattle.rules.specs.declared.Phase.{Phase}
 use Rattle.closing.specs.Closing.{undo_step}
 use Rattle.closing.proofs.ReturnLaws.{back-abort, back_none, back-undo}
-use borrow.Author.Rules.{rules}
 use Rattle.closing.proofs.back_step.Goals as goal
 
 pub returns-then-active-ne0 : goal.returns-then-active-ne0

@@ -5,7 +5,6 @@ use Rattle.rules.specs.declared.Phase.{Phase}
 use Rattle.rules.specs.declared.Phase.TheVariants.{Idle, Active, Committed, Aborted}
 use Rattle.closing.specs.Closing.{closing, closing_by}
 use Rattle.closing.proofs.ReturnLaws.{closing-unlisted, closing_at}
-use borrow.Author.Rules.{rules}
 use Rattle.closing.proofs.closing.Lts as lts
 use Rattle.closing.proofs.closing.Reads as reads
 use Rattle.closing.proofs.closing.Tie as tie

@@ -1,11 +1,7 @@
-use borrow.Author.Rules.{rules}
 use native.Mathlib.Omega.{arith}
 use mathlib.Core.Path.{◌≡◌, refl, sym, ap, ap₂, ◌∙◌}
 use mathlib.Core.Bool.{Bool, not, ◌&&◌}
-use Prim.Native.Nat.{ℕ, ◌+◌, ◌-◌, ◌≤◌}
-use Rattle.laws.specs.Index.{highest}
 use Rattle.rules.specs.States.{is_committed, own}
-use Rattle.rules.specs.declared.Phase.{Phase}
 use Rattle.closing.specs.Closing.{next_undo}
 use Rattle.laws.proofs.StepLaws.{highest-zero, down-hit, down-miss, down-end}
 use Rattle.closing.proofs.next_undo.Lts as lts

@@ -1,16 +1,9 @@
-use borrow.Author.Rules.{rules}
-use native.Mathlib.Omega.{arith}
-use mathlib.Core.Path.{◌≡◌, refl, sym, ap, ap₂, ◌∙◌}
+use mathlib.Core.Path.{◌≡◌}
 use mathlib.Core.Bool.{Bool, not, ◌&&◌}
 use Prim.Native.Nat.{ℕ, ◌+◌, ◌-◌, ◌≤◌}
 use Rattle.laws.specs.Index.{highest}
 use Rattle.rules.specs.States.{is_committed, own}
 use Rattle.rules.specs.declared.Phase.{Phase}
-use Rattle.closing.specs.Closing.{next_undo}
-use Rattle.laws.proofs.StepLaws.{highest-zero, down-hit, down-miss, down-end}
-use Rattle.closing.proofs.next_undo.Lts as lts
-use Rattle.closing.proofs.next_undo.Reads as reads
-use Rattle.closing.proofs.next_undo.Tie as tie
 use Rattle.closing.proofs.next_undo.Given as goal
 
 -- step i is committed, and its undo is not

@@ -8,7 +8,6 @@ use Rattle.rules.specs.declared.Phase.TheVariants.{Idle, Active, Committed, Abor
 use Rattle.closing.specs.Closing.{outstanding, outstanding_by}
 use Rattle.closing.proofs.OutstandingLaws.{to_undo-le}
 use Rattle.closing.proofs.ReturnLaws.{outstanding-unlisted, outstanding-at}
-use borrow.Author.Rules.{rules}
 use Rattle.closing.proofs.outstanding.Lts as lts
 use Rattle.closing.proofs.outstanding.Reads as reads
 use Rattle.closing.proofs.outstanding.Tie as tie

@@ -2,7 +2,6 @@ use mathlib.Core.Path.{ap, ◌∙◌}
 use Rattle.laws.proofs.Bools.{told}
 use Rattle.rules.specs.States.{is_committed}
 use Rattle.closing.specs.Closing.{owed_by}
-use borrow.Author.Rules.{rules}
 use Rattle.closing.proofs.owed.Goals as goal
 
 pub returns-then-is_committed : goal.returns-then-is_committed

@@ -3,7 +3,6 @@ use mathlib.Core.Path.{ap₂, ◌∙◌}
 use mathlib.Core.Bool.{Bool, ◌&&◌, ◌||◌}
 use lib.Dec.{eqb}
 use Rattle.closing.proofs.ReturnLaws.{settled-unlisted, settled_at}
-use borrow.Author.Rules.{rules}
 use Rattle.closing.proofs.settled.Goals as goal
 
 pub returns-then-not-is_listed : goal.returns-then-not-is_listed

@@ -6,7 +6,6 @@ use Rattle.rules.specs.States.{own}
 use Rattle.closing.specs.Closing.{owed}
 use Rattle.closing.proofs.OutstandingLaws.{owed-le}
 use Rattle.closing.proofs.ReturnLaws.{undo-no-active, undo-active}
-use borrow.Author.Rules.{rules}
 use Rattle.closing.proofs.to_undo.Goals as goal
 
 pub returns-then-active-eq0 : goal.returns-then-active-eq0

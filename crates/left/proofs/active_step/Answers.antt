@@ -1,8 +1,5 @@
-use borrow.Author.Rules.{rules}
 use native.Mathlib.Omega.{arith}
 use mathlib.Core.Path.{◌≡◌, refl, sym, ap, ◌∙◌}
-use Prim.Native.Nat.{◌≤◌}
-use Rattle.laws.specs.Index.{highest}
 use Rattle.rules.specs.Lent.{transactions_in}
 use Rattle.rules.specs.States.{is_active, own}
 use Rattle.closing.specs.Closing.{active_step}

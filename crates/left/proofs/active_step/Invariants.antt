@@ -1,15 +1,8 @@
-use borrow.Author.Rules.{rules}
-use native.Mathlib.Omega.{arith}
-use mathlib.Core.Path.{◌≡◌, refl, sym, ap, ◌∙◌}
+use mathlib.Core.Path.{◌≡◌}
 use Prim.Native.Nat.{◌≤◌}
 use Rattle.laws.specs.Index.{highest}
 use Rattle.rules.specs.Lent.{transactions_in}
 use Rattle.rules.specs.States.{is_active, own}
-use Rattle.closing.specs.Closing.{active_step}
-use Rattle.laws.proofs.StepLaws.{down-hit, down-miss, down-end}
-use Rattle.left.proofs.active_step.Lts as lts
-use Rattle.left.proofs.active_step.Reads as reads
-use Rattle.left.proofs.active_step.Tie as tie
 use Rattle.left.proofs.active_step.Given as goal
 
 abbrev pub invariant-loop-i : goal.invariant-loop-i

@@ -1,7 +1,6 @@
 use mathlib.Core.Path.{sym, ap, ◌∙◌}
 use Rattle.sheet.specs.Sheet.{sort_at}
 use Rattle.left.specs.Left.{moves_by}
-use borrow.Author.Rules.{rules}
 use Rattle.left.proofs.moves_on.Goals as goal
 
 pub returns-in-Begin : goal.returns-in-Begin

@@ -4,7 +4,6 @@ use Rattle.rules.specs.States.{is_committed}
 use Rattle.closing.specs.Closing.{owed_by}
 use Rattle.closing.proofs.OutstandingLaws.{owed_by-le}
 use native.Mathlib.Omega.{arith}
-use borrow.Author.Rules.{rules}
 use Rattle.left.proofs.owed.Goals as goal
 
 pub overflow_cast-result : goal.overflow_cast-result

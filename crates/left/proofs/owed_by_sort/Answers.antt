@@ -1,7 +1,6 @@
 use mathlib.Core.Path.{sym, ap, ◌∙◌}
 use Rattle.rules.specs.Lent.{transactions_in}
 use Rattle.left.specs.Left.{owed_by_sort}
-use borrow.Author.Rules.{rules}
 use Rattle.left.proofs.owed_by_sort.Goals as goal
 
 pub returns-in-Saga : goal.returns-in-Saga

@@ -9,7 +9,6 @@ use Rattle.rules.specs.declared.Phase.TheVariants.{Idle, Active, Committed, Abor
 use Rattle.closing.specs.Closing.{outstanding_by}
 use Rattle.closing.proofs.OutstandingLaws.{to_undo-le}
 use Rattle.left.specs.Left.{owed_from}
-use borrow.Author.Rules.{rules}
 use Rattle.left.proofs.owed_in.Lts as lts
 use Rattle.left.proofs.owed_in.Reads as reads
 use Rattle.left.proofs.owed_in.Tie as tie

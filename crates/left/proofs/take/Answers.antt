@@ -1,7 +1,6 @@
 use mathlib.Core.Path.{◌∙◌}
 use Rattle.judge.specs.Lent.{state_in}
 use Rattle.left.proofs.TakeLaws.{sum_moved}
-use borrow.Author.Rules.{rules}
 use Rattle.left.proofs.take.Goals as goal
 
 pub returns : goal.returns

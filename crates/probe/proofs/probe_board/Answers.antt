@@ -5,7 +5,6 @@ use Rattle.terms.specs.declared.Event.{Event}
 use Rattle.judge.specs.Judge.{judged}
 use Rattle.judge.specs.Lent.{state_in}
 use Rattle.left.specs.Left.{left_then}
-use borrow.Author.Rules.{rules}
 use Rattle.probe.proofs.probe_board.Goals as goal
 
 pub returns : goal.returns

@@ -3,7 +3,6 @@ use Rattle.terms.specs.Refusals.{verdict_number}
 use Rattle.terms.specs.declared.Event.{Event}
 use Rattle.judge.specs.Judge.{judged}
 use Rattle.judge.specs.Lent.{state_in}
-use borrow.Author.Rules.{rules}
 use Rattle.probe.proofs.probe_take.Goals as goal
 
 pub returns : goal.returns

@@ -1,9 +1,5 @@
-use borrow.Author.Rules.{rules}
-use native.Mathlib.Omega.{arith}
-use Prim.Native.Nat.{ℕ, ◌+◌, ◌-◌, ◌≤◌}
-use mathlib.Core.Path.{◌≡◌, sym, ◌∙◌, subst, subst⁻¹}
-use mathlib.Core.Logic.{⊎_elim}
-use Rattle.replay.proofs.CodeLaws.{BehindOf, behind-none, behind-in, behind-out}
+use Prim.Native.Nat.{◌-◌, ◌≤◌}
+use Rattle.replay.proofs.CodeLaws.{BehindOf}
 use Rattle.replay.proofs.behind.Given as goal
 
 abbrev pub invariant-loop-a : goal.invariant-loop-a

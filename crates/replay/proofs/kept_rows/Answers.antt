@@ -1,14 +1,11 @@
-use borrow.Author.Rules.{rules}
 use native.Mathlib.Omega.{arith}
-use Prim.Native.Nat.{◌≤◌, ◌+◌, ◌-◌, ℕ}
+use Prim.Native.Nat.{◌+◌, ◌-◌, ℕ}
 use mathlib.Core.Path.{◌≡◌, sym, subst, subst⁻¹}
 use lib.ListN.{replicate}
-use Rattle.ties.specs.Operations.{size, op_at}
-use Rattle.ties.specs.declared.Operation.{Operation}
-use Rattle.ties.specs.declared.Ops.{Ops}
+use Rattle.ties.specs.Operations.{size}
 use Rattle.rows.specs.Rows.{Swept}
 use Rattle.rows.proofs.SweepLaws.{swept_none, swept_all}
-use Rattle.replay.specs.Replay.{kept, comes_before}
+use Rattle.replay.specs.Replay.{comes_before}
 use Rattle.replay.proofs.kept_rows.Invariants.{kept_at}
 use Rattle.replay.proofs.kept_rows.Goals as goal
 

@@ -1,7 +1,6 @@
-use borrow.Author.Rules.{rules}
 use native.Mathlib.Omega.{arith}
 use mathlib.Core.Path.{◌≡◌, sym, ap, ◌∙◌}
-use Prim.Native.Nat.{ℕ, ◌-◌, ◌≤◌}
+use Prim.Native.Nat.{ℕ}
 use Rattle.terms.specs.Limits.{most_transactions}
 use Rattle.sets.specs.Sets.{set_of}
 use Rattle.sets.proofs.SetLaws.{set-of-none, set-of-in, set-of-out}

@@ -5,7 +5,6 @@ use Rattle.terms.specs.Limits.{most_transactions}
 use Rattle.sets.specs.Sets.{mem}
 use Rattle.report.specs.Report.{active_in, active_set, report_of}
 use Rattle.sets.proofs.SetLaws.{count-members, first_member}
-use borrow.Author.Rules.{rules}
 use Rattle.report.proofs.report_of.Goals as goal
 
 pub returns : goal.returns

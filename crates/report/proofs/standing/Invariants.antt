@@ -1,18 +1,11 @@
-use borrow.Author.Rules.{rules}
-use native.Mathlib.Omega.{arith}
-use mathlib.Core.Path.{◌≡◌, sym, ap, ap₂, ◌∙◌}
-use mathlib.Core.Logic.{⊎_elim}
-use mathlib.Core.Bool.{Bool, false}
-use mathlib.Core.List.{List}
-use lib.ListN.{get_or, set}
-use Rattle.sets.specs.Reach.{at}
-use Prim.Native.Nat.{ℕ, ◌-◌, ◌≤◌}
+use mathlib.Core.Path.{◌≡◌}
+use mathlib.Core.Bool.{false}
+use lib.ListN.{get_or}
+use Prim.Native.Nat.{◌-◌, ◌≤◌}
 use Rattle.laws.specs.Index.{tabulate}
 use Rattle.terms.specs.Limits.{most_transactions}
 use Rattle.sets.specs.Sets.{set_of}
-use Rattle.sets.proofs.SetLaws.{set-of-none, set-of-in, set-of-out}
-use Rattle.ties.specs.Ties.{before, pairs_of}
-use Rattle.report.proofs.RowLaws.{filled, rows_none, rows_more, rows_all}
+use Rattle.report.proofs.RowLaws.{filled}
 use Rattle.report.proofs.standing.Given as goal
 
 abbrev pub invariant-loop-b : goal.invariant-loop-b
