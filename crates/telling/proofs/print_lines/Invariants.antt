@@ -4,7 +4,7 @@ use borrow.Author.Rules.{rules}
 use Rattle.telling.proofs.print_lines.Given as goal
 
 abbrev pub invariant-loop-k : goal.invariant-loop-k
-invariant-loop-k l = l.k ≤ l.count
+invariant-loop-k g l = l.k ≤ l.count
 
 abbrev pub decreases-loop-k : goal.decreases-loop-k
-decreases-loop-k l = l.count - l.k
+decreases-loop-k g l = l.count - l.k

@@ -6,43 +6,59 @@ use borrow.Author.Rules.{rules}
 use Rattle.telling.proofs.TellLaws.{Fit, read_fits, read-not, read-understood}
 use Rattle.telling.proofs.tell_in.Goals as goal
 
--- what the plan takes is in the rooms
-fits : (c : goal.After-read-judgement)
-    → Fit (length c.before.before.before.before.before.before.before.before.before.before.before.before.before.before.before.before.before.before.before.before.before.before.before.args.names.now) (length c.before.before.before.before.before.before.before.before.before.before.before.before.before.before.before.before.before.before.before.before.before.before.before.args.ends.now) (length c.before.before.before.before.before.before.before.before.before.before.before.before.before.before.before.before.before.before.before.before.before.before.before.args.steps.now) (length c.before.before.before.before.before.before.before.before.before.before.before.before.before.before.before.before.before.before.before.before.before.before.before.args.lists.now) c.before.before.counts-1.given.0.0
-fits c =
-    let a = c.before.before.before.before.before.before.before.before.before.before.before.before.before.before.before.before.before.before.before.before.before.before.before.args in
-    read_fits (length a.names.now) (length a.ends.now) (length a.steps.now) (length a.lists.now) a.text.now c.before.before.counts-1.given.0.0
-    (sym c.before.before.before.before.before.before.before.before.before.before.before.before.read.ensures.0 ∙ c.before.before.counts-1.given.1)
-
 pub slice_bounds-print_lines-end : goal.slice_bounds-print_lines-end
-slice_bounds-print_lines-end c = omega (arith, (fits c).names-fit)
+slice_bounds-print_lines-end g c =
+    let a = c.args in
+    let fits = read_fits (length a.names.now) (length a.ends.now) (length a.steps.now) (length a.lists.now) a.text.now c.in-Read.counts (sym c.read.ensures.value ∙ c.in-Read.is) in
+    omega (arith, fits.names-fit)
 
 pub slice_bounds-print_lines-end-in-Read : goal.slice_bounds-print_lines-end-in-Read
-slice_bounds-print_lines-end-in-Read c = sym (length-take-le _ _ (slice_bounds-print_lines-end c.before))
+slice_bounds-print_lines-end-in-Read g c =
+    let a = c.args in
+    let fits = read_fits (length a.names.now) (length a.ends.now) (length a.steps.now) (length a.lists.now) a.text.now c.in-Read.counts (sym c.read.ensures.value ∙ c.in-Read.is) in
+    sym (length-take-le _ _ (omega (arith, fits.names-fit)))
 
 pub slice_bounds-print_lines-end-in-Read-2 : goal.slice_bounds-print_lines-end-in-Read-2
-slice_bounds-print_lines-end-in-Read-2 c = omega (arith, (fits c.before).ends-fit)
+slice_bounds-print_lines-end-in-Read-2 g c =
+    let a = c.args in
+    let fits = read_fits (length a.names.now) (length a.ends.now) (length a.steps.now) (length a.lists.now) a.text.now c.in-Read.counts (sym c.read.ensures.value ∙ c.in-Read.is) in
+    omega (arith, fits.ends-fit)
 
 pub slice_bounds-print_lines-end-in-Read-3 : goal.slice_bounds-print_lines-end-in-Read-3
-slice_bounds-print_lines-end-in-Read-3 c = sym (length-take-le _ _ (slice_bounds-print_lines-end-in-Read-2 c.before))
+slice_bounds-print_lines-end-in-Read-3 g c =
+    let a = c.args in
+    let fits = read_fits (length a.names.now) (length a.ends.now) (length a.steps.now) (length a.lists.now) a.text.now c.in-Read.counts (sym c.read.ensures.value ∙ c.in-Read.is) in
+    sym (length-take-le _ _ (omega (arith, fits.ends-fit)))
 
 pub slice_bounds-print_lines-end-in-Read-4 : goal.slice_bounds-print_lines-end-in-Read-4
-slice_bounds-print_lines-end-in-Read-4 c = omega (arith, (fits c.before.before).steps-fit)
+slice_bounds-print_lines-end-in-Read-4 g c =
+    let a = c.args in
+    let fits = read_fits (length a.names.now) (length a.ends.now) (length a.steps.now) (length a.lists.now) a.text.now c.in-Read.counts (sym c.read.ensures.value ∙ c.in-Read.is) in
+    omega (arith, fits.steps-fit)
 
 pub slice_bounds-print_lines-end-in-Read-5 : goal.slice_bounds-print_lines-end-in-Read-5
-slice_bounds-print_lines-end-in-Read-5 c = sym (length-take-le _ _ (slice_bounds-print_lines-end-in-Read-4 c.before))
+slice_bounds-print_lines-end-in-Read-5 g c =
+    let a = c.args in
+    let fits = read_fits (length a.names.now) (length a.ends.now) (length a.steps.now) (length a.lists.now) a.text.now c.in-Read.counts (sym c.read.ensures.value ∙ c.in-Read.is) in
+    sym (length-take-le _ _ (omega (arith, fits.steps-fit)))
 
 pub slice_bounds-print_lines-end-in-Read-6 : goal.slice_bounds-print_lines-end-in-Read-6
-slice_bounds-print_lines-end-in-Read-6 c = omega (arith, (fits c.before.before.before).lists-fit)
+slice_bounds-print_lines-end-in-Read-6 g c =
+    let a = c.args in
+    let fits = read_fits (length a.names.now) (length a.ends.now) (length a.steps.now) (length a.lists.now) a.text.now c.in-Read.counts (sym c.read.ensures.value ∙ c.in-Read.is) in
+    omega (arith, fits.lists-fit)
 
 pub slice_bounds-print_lines-end-in-Read-7 : goal.slice_bounds-print_lines-end-in-Read-7
-slice_bounds-print_lines-end-in-Read-7 c = sym (length-take-le _ _ (slice_bounds-print_lines-end-in-Read-6 c.before))
-
-pub returns-then-print_lines : goal.returns-then-print_lines
-returns-then-print_lines c = read-understood _ _ _ _ c.before.before.before.before.before.before.before.before.before.before.before.before.before.before.before.before.before.before.before.before.before.before.before.before.before.before.before.before.before.args.text.now _ (sym c.before.before.before.before.before.before.before.before.before.before.before.before.before.before.before.before.before.before.read.ensures.0 ∙ c.before.before.before.before.before.before.before.before.counts-1.given.1)
-
-pub returns-else-print_lines : goal.returns-else-print_lines
-returns-else-print_lines c = read-understood _ _ _ _ c.before.before.before.before.before.before.before.before.before.before.before.before.before.before.before.before.before.before.before.before.before.before.before.before.before.before.before.before.before.args.text.now _ (sym c.before.before.before.before.before.before.before.before.before.before.before.before.before.before.before.before.before.before.read.ensures.0 ∙ c.before.before.before.before.before.before.before.before.counts-1.given.1)
+slice_bounds-print_lines-end-in-Read-7 g c =
+    let a = c.args in
+    let fits = read_fits (length a.names.now) (length a.ends.now) (length a.steps.now) (length a.lists.now) a.text.now c.in-Read.counts (sym c.read.ensures.value ∙ c.in-Read.is) in
+    sym (length-take-le _ _ (omega (arith, fits.lists-fit)))
 
 pub returns-in-NotUnderstood : goal.returns-in-NotUnderstood
-returns-in-NotUnderstood c = read-not _ _ _ _ c.before.before.before.before.before.before.before.before.before.before.before.before.before.before.before.before.before.before.before.before.before.before.args.text.now _ (sym c.before.before.before.before.before.before.before.before.before.before.before.read.ensures.0 ∙ c.before.line-1.given.1)
+returns-in-NotUnderstood g c = read-not _ _ _ _ c.args.text.now _ (sym c.read.ensures.value ∙ c.in-NotUnderstood.is)
+
+pub returns-in-Ok : goal.returns-in-Ok
+returns-in-Ok g c = read-understood _ _ _ _ c.args.text.now _ (sym c.read.ensures.value ∙ c.in-Read.is)
+
+pub returns-in-Err : goal.returns-in-Err
+returns-in-Err g c = read-understood _ _ _ _ c.args.text.now _ (sym c.read.ensures.value ∙ c.in-Read.is)
