@@ -1,8 +1,5 @@
-use borrow.Author.Rules.{rules}
 use native.Mathlib.Omega.{arith}
 use mathlib.Core.Path.{◌≡◌, ap, ◌∙◌}
-use Prim.Native.Nat.{◌-◌, ◌≤◌}
-use lib.ListN.{length}
 use Rattle.plan.specs.Names.{move_name}
 use Rattle.plan.proofs.NameLaws.{names-none, move-more, move_all}
 use Rattle.plan.proofs.move_name.Goals as goal

@@ -7,7 +7,6 @@ use Rattle.plan.specs.Lines.{entries_of}
 use Rattle.plan.specs.Reading.{plan_names, plan_ends, plan_steps, plan_lists, room_after}
 use Rattle.plan.proofs.ReadLaws.{room-kept, room-filled, answer-long, answer-not, answer-full, answer-read, told-counts, rooms}
 use borrow.Enum.Refused.{opened}
-use borrow.Author.Rules.{rules}
 use Rattle.plan.proofs.read.Goals as goal
 
 pub returns-then-text-gt-BYTES : goal.returns-then-text-gt-BYTES
