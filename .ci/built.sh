@@ -12,7 +12,7 @@ stamp_of() {
 
 # All that the programs are built from, as one hash: the toolchain and the crates, without what was made of them.
 sources() {
-  (cd "$root" && { rt version && find crates.txt crates -regex 'crates/[^/]*/out' -prune -o -type f -print0 | LC_ALL=C sort -z | xargs -0 sha256sum; } | sha256sum)
+  (cd "$root" && { rt version </dev/null && find crates.txt crates -regex 'crates/[^/]*/out' -prune -o -type f -print0 | LC_ALL=C sort -z | xargs -0 sha256sum; } | sha256sum)
 }
 
 # What stands in the stamp of a program that is as it was built: from which sources, and which program came of them.

@@ -1,7 +1,7 @@
 -- What the contracts of the crate cite. Assumes nothing.
 use Rattle.std.specs.Prelude.{ℕ, ◌≤◌, ◌<◌, List, length, take}
 use Rattle.std.specs.Io.KnownBytes.{Consumes, IsAtEnd, Keeps}
-use Rattle.core.specs.declared.option.Option.{Option}
+use Rattle.std.specs.declared.option.Option.{Option}
 use Rattle.input.specs.declared.Filled.{Filled}
 use Rattle.input.specs.declared.Filled.TheVariants.{Whole, Failed}
 use Rattle.input.specs.declared.Got.{Got}
@@ -14,9 +14,9 @@ Within (Failed reason) room = Unit {0}
 
 -- the front of the room has what the input lost, in its order, and if there is room left the input is at its end; what the input had and has is
 -- only spoken of where it is known
-abbrev pub Takes : Option (List ℕ) → Option (List ℕ) → Filled → List ℕ → Type 0
-Takes old new (Whole n) room = Consumes old new (take n room) × (n < length room → IsAtEnd new)
-Takes old new (Failed reason) room = Unit {0}
+abbrev pub TakesFrom : Option (List ℕ) → Option (List ℕ) → Filled → List ℕ → Type 0
+TakesFrom old new (Whole n) room = Consumes old new (take n room) × (n < length room → IsAtEnd new)
+TakesFrom old new (Failed reason) room = Unit {0}
 
 -- a single read puts at least one byte into the part that it is lent, and no more than that holds
 abbrev pub Fits : Got → ℕ → Type 0

@@ -4,7 +4,7 @@
 mod reason;
 
 ghost use Rattle.std.specs.Prelude.{◌+◌, ◌<◌, length};
-ghost use Rattle.input.specs.Filling.{Within, Takes, Fits, Moves};
+ghost use Rattle.input.specs.Filling.{Within, TakesFrom, Fits, Moves};
 
 pub use reason::Reason;
 use std::env::{Env, FillError};
@@ -35,7 +35,7 @@ enum Got {
 // Fills a room from the front, up to its end or that of the input. A read that a signal interrupted is tried again, a thousand times in all.
 pub fn fill<R: Read>(reader: &mut R, room: &mut [u8]) -> Filled
     ensures within { Within result room.new }
-    ensures takes { Takes (R.remaining reader.old) (R.remaining reader.new) result room.new }
+    ensures takes { TakesFrom (R.remaining reader.old) (R.remaining reader.new) result room.new }
 {
     let mut done: usize = 0;
     let mut patience: usize = 1000;

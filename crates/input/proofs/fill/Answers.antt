@@ -1,4 +1,4 @@
-use Rattle.std.proofs.Common.{rules, arith, length-take-le}
+use Rattle.std.proofs.Common.{rules, length-take-le}
 use Rattle.std.proofs.lemmas.List.{places}
 use Rattle.input.proofs.FillingLaws.{front_grows}
 use Rattle.input.proofs.fill.Goals as goal
