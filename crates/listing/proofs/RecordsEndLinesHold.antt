@@ -1,19 +1,16 @@
 -- Only the last number of `op` lines goes by the records.
 use Prim.Native.Nat.{ℕ}
-use mathlib.Core.Path.{◌≡◌, refl, sym, ap, ap₂, ◌∙◌}
+use mathlib.Core.Path.{◌≡◌, ap, ap₂, ◌∙◌}
 use mathlib.Core.List.{List, ◌++◌, append_assoc}
-use lib.ListN.{length}
 use Rattle.terms.specs.declared.Verdict.{Verdict}
-use Rattle.number.specs.declared.Edition.TheVariants.{First, Second}
-use Rattle.tables.specs.Counts.{saga_count, transaction_count}
 use Rattle.tables.specs.declared.Tables.{Tables}
-use Rattle.ties.specs.Operations.{op_at, size}
+use Rattle.ties.specs.Operations.{op_at}
 use Rattle.ties.specs.declared.Operation.{Operation}
 use Rattle.rules.specs.States.{phase_of}
 use Rattle.rules.specs.declared.State.{State}
 use Rattle.closing.specs.Closing.{closing, outstanding}
 use Rattle.onward.specs.declared.Judgement.{Judgement}
-use Rattle.listing.specs.Lines.{fate_word, first_line_by, line_count, line_of, mark_word, operation_line_of, phase_word, saga_line, step_words, transaction_line}
+use Rattle.listing.specs.Lines.{fate_word, first_line_by, line_count, line_of, mark_word, phase_word, step_words}
 use Rattle.listing.specs.Promises.{RecordsEndLines, operation_front}
 use Rattle.listing.specs.Words.{blank, decimal, line_feed, operation_word, saga_word, transaction_word}
 

@@ -1,7 +1,7 @@
 -- The listing (docs/RULES.md, 7 The listing): "Line 1: events accepted; or `book refused`, number, events, place. `t`: number, state. `op`: number,
 -- object, mark, responsible, state, and in edition 2 the pupil record. `saga`: index, outstanding, closing step and its transaction, or `none`. The kinds of line come in this order,
 -- each by rising number. If the tables are refused only line 1 is printed." Refused tables are empty, so that no other line is left then.
-use Rattle.std.specs.Prelude.{ℕ, zero, suc, ◌+◌, ◌-◌, ◌≤◌, ◌≡◌, cond, List, [], ◌∷◌, ◌++◌, ltb, leb, eqb, get_or, take}
+use Rattle.std.specs.Prelude.{ℕ, zero, suc, ◌+◌, ◌-◌, cond, List, [], ◌∷◌, ◌++◌, ltb, leb, eqb, get_or}
 use Rattle.terms.specs.Refusals.{number_of}
 use Rattle.terms.specs.declared.Verdict.{Verdict}
 use Rattle.terms.specs.declared.Verdict.TheVariants.{Accepted, Refused}

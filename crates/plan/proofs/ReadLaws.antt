@@ -1,6 +1,6 @@
 -- What reading answers, and the rooms after it.
 use mathlib.Core.Path.{◌≡◌, refl, sym, ap, ap₂, ◌∙◌}
-use mathlib.Core.Logic.{⊎_elim}
+use mathlib.Core.Logic.{inl, inr, ⊎_elim}
 use mathlib.Core.Bool.{true, false, ◌&&◌}
 use mathlib.Core.List.{List, [], ◌∷◌, ◌++◌, map}
 use Prim.Native.Nat.{ℕ, zero, suc, ◌+◌, ◌≤◌, ◌<◌}
@@ -80,6 +80,13 @@ module _ (xs ys : List (List ℕ)) where
 -- the plan was not read
 abbrev pub NotRead : PlanRead → Type 0
 NotRead x = OneOf (1 ∷ 2 ∷ 3 ∷ []) (tag_of PlanReadType.the_type x)
+
+-- it was not, if it is no plan that was read
+pub not-read : (x : PlanRead) → ((c : Counts) → x ≡ Read c → ⊥) → NotRead x
+not-read (Read c) other = absurd (other c refl)
+not-read (NotUnderstood n) other = inl refl
+not-read NoRoom other = inr (inl refl)
+not-read TooLong other = inr (inr refl)
 
 read-is-read {ℓ} : {A : Type ℓ} (c : Counts) → NotRead (Read c) → A
 read-is-read c m = ⊎_elim (λ e. absurd (omega arith)) (λ r. ⊎_elim (λ e. absurd (omega arith)) (λ e. absurd (omega arith)) r) m

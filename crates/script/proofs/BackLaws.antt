@@ -1,19 +1,19 @@
 -- A line that a form shows says by that form the fields that it was shown from, and nothing by a form that differs.
-use mathlib.Core.Path.{◌≡◌, refl, sym, ap, ap₂, ◌∙◌}
-use mathlib.Core.Bool.{Bool, true, false, cond, not, ◌&&◌, ◌||◌, true≢false, false≢true}
+use mathlib.Core.Path.{◌≡◌, refl, sym, ap, ◌∙◌}
+use mathlib.Core.Bool.{Bool, true, false, not, ◌&&◌, ◌||◌, false≢true}
 use mathlib.Core.List.{List, [], ◌∷◌, ◌++◌, append_assoc, append-nil}
 use Prim.Native.Nat.{ℕ, zero, suc, ◌+◌, ◌-◌, ◌*◌, ◌/◌, ◌%◌, ◌^◌, ◌≤◌, ◌<◌}
 use native.Mathlib.Nat.{pow-suc}
 use native.Mathlib.Omega.{arith}
 use borrow.Author.Tests.{eq-eqb, ne_eqb, lt-ltb, le-ltb, le-leb, leb-true, ltb-true, eqb-true, eqb-false}
-use lib.ListN.{length, get_or, take, drop}
+use lib.ListN.{get_or, take, drop}
 use lib.Dec.{ltb, leb, eqb}
-use Rattle.laws.proofs.Bools.{bool_cases, on_and, or_cases, or-rest}
+use Rattle.laws.proofs.Bools.{bool_cases, on_and, or-rest}
 use Rattle.plan.specs.Lines.{is_blank, past_blanks}
 use Rattle.listing.specs.Words.{digits_from, decimal}
 use Rattle.script.specs.declared.Sign.{Sign}
 use Rattle.script.specs.declared.Sign.TheVariants.{Fixed, Number, Blank, Letter, Nothing}
-use Rattle.script.specs.Forms.{sign_of, takes_by, takes, count_of, own_by, is_own, fits, piece_by, piece_of, shown, blank_first, first_is, remark_first, ended, is_figure, largest, figures_from, figure_first, numeral_of, Finding, goes, speaks, other, found_as, found_by, Saying, fields, another, on_finding, says}
+use Rattle.script.specs.Forms.{sign_of, takes_by, takes, count_of, own_by, is_own, fits, piece_by, piece_of, shown, blank_first, ended, is_figure, largest, figures_from, figure_first, numeral_of, Finding, goes, speaks, other, found_as, found_by, fields, another, on_finding, says}
 use Rattle.script.proofs.ShowLaws.{Small, small-drop}
 
 -- ---- by the sign of a byte, with what is known of the byte

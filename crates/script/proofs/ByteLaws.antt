@@ -1,12 +1,12 @@
 -- The bytes of a form and of a line one at a time, as the code meets them.
-use mathlib.Core.Path.{◌≡◌, refl, sym, ap, ap₂, ◌∙◌}
-use mathlib.Core.Bool.{Bool, true, false, cond, ◌&&◌, false≢true}
-use mathlib.Core.List.{List, [], ◌∷◌, ◌++◌, append-nil, append_assoc}
+use mathlib.Core.Path.{◌≡◌, refl, sym, ap, ◌∙◌}
+use mathlib.Core.Bool.{Bool, true, false, ◌&&◌, false≢true}
+use mathlib.Core.List.{List, [], ◌∷◌}
 use Prim.Native.Nat.{ℕ, suc, ◌+◌, ◌-◌, ◌*◌, ◌≤◌, ◌<◌}
 use native.Mathlib.Numerals.{add-one}
 use native.Mathlib.Omega.{arith}
-use lib.ListN.{length, get_or, take, drop, drop_of_length-le, length-drop}
-use lib.Seq.{drop-cons, drop-drop, take-suc-set}
+use lib.ListN.{length, get_or, drop, drop_of_length-le, length-drop}
+use lib.Seq.{drop-cons, drop-drop}
 use lib.Dec.{ltb, leb, eqb}
 use borrow.Author.Tests.{eq-eqb, ne_eqb, lt-ltb, le-ltb, leb-true, ltb-true}
 use Rattle.laws.proofs.Bools.{bool_cases, on_and}
@@ -15,7 +15,7 @@ use Rattle.plan.specs.Lines.{is_blank, past_blanks}
 use Rattle.plan.proofs.EntryLaws.{past-le}
 use Rattle.script.specs.declared.Sign.{Sign}
 use Rattle.script.specs.declared.Sign.TheVariants.{Fixed, Number, Blank, Letter, Nothing}
-use Rattle.script.specs.Forms.{sign_of, takes_by, takes, own_by, is_own, piece_by, piece_of, allows, blank_first, first_is, remark_first, ended, is_figure, largest, figures_from, figure_first, numeral_of, Finding, goes, speaks, other, found_as, found_by}
+use Rattle.script.specs.Forms.{sign_of, takes_by, takes, own_by, is_own, piece_by, piece_of, allows, blank_first, first_is, remark_first, ended, is_figure, largest, figures_from, numeral_of, goes, speaks, other, found_as, found_by}
 
 -- ---- what a byte of a form stands for
 

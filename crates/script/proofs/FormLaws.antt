@@ -1,8 +1,8 @@
 -- A form byte after byte, as the code meets it: whether it fits, what it shows, what a line says by it.
 use mathlib.Core.Path.{◌≡◌, refl, sym, ap, subst⁻¹, ◌∙◌}
-use mathlib.Core.Bool.{Bool, true, false, cond, ◌&&◌}
+use mathlib.Core.Bool.{true, false, cond}
 use mathlib.Core.List.{List, [], ◌∷◌, ◌++◌, append_assoc}
-use Prim.Native.Nat.{ℕ, suc, ◌+◌, ◌-◌, ◌≤◌, ◌<◌}
+use Prim.Native.Nat.{ℕ, ◌+◌, ◌≤◌, ◌<◌}
 use native.Mathlib.Omega.{arith}
 use lib.ListN.{length, get_or, set, take, drop, length-set, get_or-eq_default}
 use Rattle.laws.proofs.Decisions.{lt-or}
@@ -15,7 +15,7 @@ use Rattle.listing.specs.Texts.{with_all}
 use Rattle.listing.proofs.TextLaws.{all_append}
 use Rattle.script.specs.declared.Sign.{Sign}
 use Rattle.script.specs.declared.Sign.TheVariants.{Fixed, Number, Blank, Letter, Nothing}
-use Rattle.script.specs.Forms.{sign_of, takes_by, takes, count_of, is_own, fits, piece_of, shown, ended, blank_first, first_is, Finding, goes, speaks, other, found_as, found_by, Saying, fields, another, on_finding, says}
+use Rattle.script.specs.Forms.{sign_of, takes_by, takes, count_of, is_own, fits, piece_of, shown, ended, blank_first, first_is, goes, speaks, other, found_as, found_by, fields, another, on_finding, says}
 use Rattle.script.proofs.ByteLaws.{drop-none, drop_more}
 
 pub takes-le : (b : ℕ) → takes b ≤ 1

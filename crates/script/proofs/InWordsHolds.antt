@@ -1,9 +1,9 @@
 -- Fields in the order of a book are shown in words.
-use mathlib.Core.Path.{◌≡◌, refl, sym, ap, ◌∙◌}
+use mathlib.Core.Path.{◌≡◌, refl, ap}
 use mathlib.Core.List.{List, [], ◌∷◌, ◌++◌, append-nil, append_assoc}
-use Prim.Native.Nat.{ℕ, zero, suc, ◌+◌, ◌≤◌, ◌<◌}
+use Prim.Native.Nat.{ℕ, zero, suc, ◌≤◌}
 use native.Mathlib.Omega.{arith}
-use lib.ListN.{length, drop, length-append}
+use lib.ListN.{length, drop}
 use Rattle.terms.specs.declared.Event.{Event}
 use Rattle.terms.specs.declared.Event.TheVariants.{Begin, Commit, Abort, Operation as Invoke, Delegate, CommitOne, AbortOne, Spawn}
 use Rattle.terms.specs.declared.Mark.TheVariants.{Read, Write}
@@ -18,7 +18,7 @@ use Rattle.items.specs.Items.{Noted, events_fields, fields_of_event}
 use Rattle.listing.specs.Words.{decimal, line_feed}
 use Rattle.script.specs.declared.Due.{Due}
 use Rattle.script.specs.declared.Stage.{Stage}
-use Rattle.script.specs.declared.Stage.TheVariants.{Edition, Sagas, Steps, Plain, Objects, Dependencies, Entries, Events}
+use Rattle.script.specs.declared.Stage.TheVariants.{Sagas, Steps, Plain, Objects, Dependencies, Entries, Events}
 use Rattle.script.specs.Forms.{table, forms, sign_of, allows, loose_letter, takes, is_own, count_of, fits, piece_of, shown, form_for}
 use Rattle.script.specs.Stages.{first_due, counted_due, due_after}
 use Rattle.script.specs.Scripts.{form_due, text_from, book_text}

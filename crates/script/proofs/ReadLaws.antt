@@ -1,14 +1,12 @@
 -- The lines of a text one after the other, as the code meets them.
 use mathlib.Core.Path.{◌≡◌, refl, sym, ap, subst⁻¹, ◌∙◌}
-use mathlib.Core.Bool.{Bool, true, false, cond}
-use mathlib.Core.List.{List, [], ◌∷◌, ◌++◌}
-use Prim.Native.Nat.{ℕ, suc, ◌+◌, ◌-◌, ◌≤◌, ◌<◌}
+use mathlib.Core.Bool.{Bool, true, false}
+use mathlib.Core.List.{List}
+use Prim.Native.Nat.{ℕ, ◌+◌, ◌-◌, ◌≤◌, ◌<◌}
 use native.Mathlib.Omega.{arith}
 use borrow.Author.Tests.{lt-ltb, le-ltb}
 use lib.ListN.{length, get_or, take, drop, length-take}
-use lib.Seq.{length-take-le, take_all}
-use lib.Dec.{ltb}
-use Rattle.laws.proofs.Decisions.{lt-or}
+use lib.Seq.{length-take-le}
 use Rattle.plan.specs.Lines.{lines_of, past_blanks}
 use Rattle.plan.specs.Passes.{line_length}
 use Rattle.script.specs.declared.Due.{Due}
@@ -16,7 +14,7 @@ use Rattle.script.specs.declared.Line.{Line}
 use Rattle.script.specs.declared.Line.TheVariants.{Takes, Passed, Unclear}
 use Rattle.script.specs.Forms.{forms, most_fields, ended}
 use Rattle.script.specs.Stages.{letter_of, first_due, due_after}
-use Rattle.script.specs.Scripts.{LineSaying, takes, passes, unclear, first_says, line_says, Telling, tells, unclear_at, more_at, roomless, on_line, tells_from, telling, script_if_room, line_in}
+use Rattle.script.specs.Scripts.{LineSaying, takes, passes, unclear, first_says, line_says, tells, unclear_at, more_at, roomless, on_line, tells_from, telling, script_if_room, line_in}
 use Rattle.script.proofs.RowLaws.{line-more, no_lines}
 
 -- ---- one line

@@ -1,26 +1,26 @@
 -- The rows of the table and the lines of a text one after the other, as the code meets them.
 use mathlib.Core.Path.{◌≡◌, refl, sym, ap, subst⁻¹, ◌∙◌}
-use mathlib.Core.Bool.{Bool, true, false, cond, ◌&&◌}
+use mathlib.Core.Bool.{Bool, true, false, ◌&&◌}
 use mathlib.Core.List.{List, [], ◌∷◌, ◌++◌}
 use Prim.Native.Nat.{ℕ, suc, ◌+◌, ◌-◌, ◌≤◌, ◌<◌}
 use native.Mathlib.Omega.{arith}
 use borrow.Author.Tests.{leb-true}
-use lib.ListN.{length, get_or, take, drop, length-drop}
+use lib.ListN.{length, take, drop, length-drop}
 use lib.Seq.{drop-drop}
-use lib.Dec.{leb, ltb}
+use lib.Dec.{leb}
 use Rattle.laws.proofs.Bools.{on_and}
 use Rattle.plan.specs.Lines.{lines_of}
 use Rattle.plan.specs.Passes.{line_length}
 use Rattle.plan.proofs.EntryLaws.{lines_cons}
 use Rattle.script.specs.Forms
 use Rattle.script.specs.Forms.{table, forms, most_fields, allows, loose_letter, count_of, sign_of, fits, shown, form_for, Saying, fields, another, says}
-use Rattle.script.specs.Scripts.{LineSaying, takes, passes, unclear, one_says, or_next, first_says, line_in}
+use Rattle.script.specs.Scripts.{LineSaying, takes, unclear, one_says, or_next, first_says, line_in}
 use Rattle.script.specs.declared.Line.{Line}
 use Rattle.script.specs.declared.Shown.{Shown}
 use Rattle.listing.specs.Words.{line_feed}
 use Rattle.listing.specs.Texts.{text_of, with_all}
 use Rattle.script.specs.declared.Line.TheVariants.{Takes, Passed}
-use Rattle.script.proofs.ByteLaws.{drop-none, drop_more}
+use Rattle.script.proofs.ByteLaws.{drop-none}
 
 -- ---- lines
 

@@ -1,16 +1,16 @@
 -- The text of fields line after line, as the code meets it.
 use mathlib.Core.Path.{◌≡◌, refl, sym, ap, ap₂, subst, ◌∙◌}
-use mathlib.Core.Bool.{Bool, true, false, cond, ◌&&◌}
+use mathlib.Core.Bool.{Bool, true, ◌&&◌}
 use mathlib.Core.List.{List, [], ◌∷◌, ◌++◌, append_assoc, append-nil}
 use Prim.Native.Nat.{ℕ, zero, suc, ◌+◌, ◌-◌, ◌≤◌, ◌<◌}
 use native.Mathlib.Omega.{arith}
 use borrow.Author.Tests.{leb-true, le-leb, lt-leb}
 use lib.ListN.{length, get_or, take, drop, length-append, length-drop, length-take}
 use lib.Seq.{get_or-drop, drop-drop, length-take-le, take_at}
-use lib.Dec.{leb, ltb}
+use lib.Dec.{leb}
 use Rattle.laws.proofs.Bools.{bool_cases, on_and}
 use Rattle.laws.proofs.Decisions.{lt-or}
-use Rattle.listing.specs.Words.{line_feed, decimal}
+use Rattle.listing.specs.Words.{line_feed}
 use Rattle.listing.specs.Texts.{text_of, with_all, put_answer, put_room}
 use Rattle.listing.specs.declared.Put.TheVariants.{Wrote, NoRoom}
 use Rattle.listing.specs.declared.Text.{Text}
@@ -20,10 +20,9 @@ use Rattle.script.specs.declared.Sign.{Sign}
 use Rattle.script.specs.declared.Sign.TheVariants.{Fixed, Number, Blank, Letter, Nothing}
 use Rattle.script.specs.declared.Due.{Due}
 use Rattle.script.specs.declared.Shown.{Shown}
-use Rattle.script.specs.Forms
 use Rattle.script.specs.Forms.{table, forms, most_fields, sign_of, largest, allows, loose_letter, takes, count_of, fits, piece_by, piece_of, shown, form_for}
 use Rattle.script.specs.Stages.{letter_of, first_due, due_after}
-use Rattle.script.specs.Scripts.{form_due, text_from, book_text, Print, text, too_small, printed_if_room}
+use Rattle.script.specs.Scripts.{form_due, text_from, book_text, text, too_small, printed_if_room}
 use Rattle.script.proofs.RowLaws.{every, few, all-few, ShownBy}
 use Rattle.script.proofs.ByteLaws.{drop-none}
 use Rattle.script.proofs.FormLaws.{first-left}

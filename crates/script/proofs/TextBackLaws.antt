@@ -1,8 +1,8 @@
 -- The text of fields says these fields: line after line, and form after form.
-use mathlib.Core.Path.{◌≡◌, refl, sym, ap, ap₂, ◌∙◌}
-use mathlib.Core.Bool.{Bool, true, false, cond, ◌&&◌, true≢false}
+use mathlib.Core.Path.{◌≡◌, refl, sym, ap, ◌∙◌}
+use mathlib.Core.Bool.{Bool, true, ◌&&◌}
 use mathlib.Core.List.{List, [], ◌∷◌, ◌++◌, append_assoc, append-nil}
-use Prim.Native.Nat.{ℕ, zero, suc, ◌+◌, ◌-◌, ◌/◌, ◌%◌, ◌≤◌, ◌<◌}
+use Prim.Native.Nat.{ℕ, zero, suc, ◌+◌, ◌/◌, ◌%◌, ◌≤◌, ◌<◌}
 use native.Mathlib.Omega.{arith}
 use borrow.Author.Tests.{le-ltb}
 use lib.ListN.{length, get_or, take, drop, length-append, length-drop, length-take, take-append-drop}
@@ -11,22 +11,20 @@ use lib.Dec.{ltb}
 use Rattle.laws.proofs.Bools.{bool_cases, on_and}
 use Rattle.number.specs.declared.Edition as Number
 use Rattle.number.specs.declared.Edition.TheVariants.{First, Second}
-use Rattle.plan.specs.Lines.{lines_of, past_blanks}
+use Rattle.plan.specs.Lines.{lines_of}
 use Rattle.plan.specs.Promises.{NoFeed}
 use Rattle.plan.proofs.LinesHold.{lines-hold}
 use Rattle.listing.specs.Words.{line_feed, digits_from, decimal}
-use Rattle.script.specs.declared.Sign.{Sign}
-use Rattle.script.specs.declared.Sign.TheVariants.{Fixed, Number, Blank, Letter, Nothing}
 use Rattle.script.specs.declared.Due.{Due}
 use Rattle.script.specs.declared.Stage.{Stage}
 use Rattle.script.specs.declared.Stage.TheVariants.{Edition, Sagas, Steps, Plain, Objects, Dependencies, Entries, Events, Loose}
-use Rattle.script.specs.Forms.{table, forms, largest, allows, loose_letter, sign_of, takes_by, takes, count_of, is_own, fits, piece_by, piece_of, shown, form_for, ended, Saying, fields, another, says}
+use Rattle.script.specs.Forms.{table, forms, allows, loose_letter, sign_of, takes_by, takes, count_of, is_own, fits, piece_by, piece_of, shown, form_for}
 use Rattle.script.specs.Stages.{letter_of, first_due, due_after}
 use Rattle.script.specs.Scripts
 use Rattle.script.specs.Scripts.{form_due, text_from, book_text, LineSaying, passes, unclear, said_as, one_says, or_next, first_says, line_says, Telling, tells, more_at, on_line, tells_from, telling}
 use Rattle.script.proofs.RowLaws.{every}
 use Rattle.script.proofs.ShowLaws.{Small, small-drop, chosen-holds, some-forms, says-one}
-use Rattle.script.proofs.BackLaws.{sign-elim, Lead, lead, after_blank, front, tidy, Stands, lead-stands, differ, own_back, other-back}
+use Rattle.script.proofs.BackLaws.{sign-elim, lead, after_blank, front, tidy, lead-stands, differ, own_back, other-back}
 
 -- ---- the table: every form is tidy and begins with a word, and every two of them differ
 

@@ -6,7 +6,6 @@ use Rattle.listing.specs.Lines.{first_line_by}
 use mathlib.Core.Path.{◌∙◌, ap, sym}
 use Rattle.listing.specs.Texts.{text_of, with_all}
 use Rattle.listing.proofs.TextLaws.{first, then}
-use borrow.Author.Rules.{rules}
 use Rattle.listing.proofs.first_line.Goals as goal
 
 pub returns-in-Accepted : goal.returns-in-Accepted

@@ -1,4 +1,3 @@
-use borrow.Author.Rules.{rules}
 use mathlib.Core.Path.{sym, ap, ◌∙◌}
 use Rattle.tables.specs.declared.Circles.{Circles}
 use Rattle.onward.specs.Onward.{judgement_up_to}

@@ -3,7 +3,6 @@ use mathlib.Core.Path.{◌∙◌, ap, sym}
 use mathlib.Core.List.{[]}
 use Rattle.listing.specs.Texts.{with_all}
 use Rattle.listing.proofs.ListingLaws.{later-transaction, later-operation, later-saga}
-use borrow.Author.Rules.{rules}
 use Rattle.listing.proofs.later_line.Goals as goal
 
 pub returns-then-k-transactions : goal.returns-then-k-transactions

@@ -1,9 +1,8 @@
-use borrow.Author.Rules.{rules}
 use native.Mathlib.Omega.{arith}
-use Prim.Native.Nat.{◌+◌, ◌-◌, ◌≤◌}
-use mathlib.Core.Path.{◌≡◌, refl, ap}
-use lib.ListN.{length, length-set}
-use Rattle.listing.proofs.LayLaws.{Digits, digit-more, digits-done, digits-end, digits_more, digits-start, one-digit}
+use Prim.Native.Nat.{◌+◌, ◌-◌}
+use mathlib.Core.Path.{refl, ap}
+use lib.ListN.{length-set}
+use Rattle.listing.proofs.LayLaws.{digit-more, digits-done, digits-end, digits_more, digits-start, one-digit}
 use Rattle.listing.proofs.lay_number.Goals as goal
 
 pub loop-rest-init : goal.loop-rest-init

@@ -1,9 +1,7 @@
-use borrow.Author.Rules.{rules}
-use native.Mathlib.Omega.{arith}
-use Prim.Native.Nat.{◌+◌, ◌-◌, ◌≤◌}
-use mathlib.Core.Path.{◌≡◌, refl, ap}
-use lib.ListN.{length, length-set}
-use Rattle.listing.proofs.LayLaws.{Digits, digit-more, digits-done, digits-end, digits_more, digits-start, one-digit}
+use Prim.Native.Nat.{◌≤◌}
+use mathlib.Core.Path.{◌≡◌}
+use lib.ListN.{length}
+use Rattle.listing.proofs.LayLaws.{Digits}
 use Rattle.listing.proofs.lay_number.Given as goal
 
 abbrev pub invariant-loop-rest : goal.invariant-loop-rest

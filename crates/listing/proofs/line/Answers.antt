@@ -2,7 +2,6 @@ use mathlib.Core.Path.{◌∙◌, ap, sym}
 use mathlib.Core.List.{[]}
 use Rattle.listing.specs.Texts.{with_all}
 use Rattle.listing.proofs.ListingLaws.{line_first, line-later, line-whole}
-use borrow.Author.Rules.{rules}
 use Rattle.listing.proofs.line.Goals as goal
 
 pub returns-then-k-eq0 : goal.returns-then-k-eq0

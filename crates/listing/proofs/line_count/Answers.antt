@@ -1,5 +1,4 @@
 use Rattle.listing.specs.Lines.{line_count}
-use borrow.Author.Rules.{rules}
 use Rattle.listing.proofs.line_count.Goals as goal
 
 pub returns : goal.returns

@@ -1,5 +1,4 @@
 use Rattle.listing.proofs.TextLaws.{first, then}
-use borrow.Author.Rules.{rules}
 use Rattle.listing.proofs.operation_line.Goals as goal
 
 pub returns : goal.returns

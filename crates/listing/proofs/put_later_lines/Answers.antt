@@ -1,10 +1,9 @@
-use borrow.Author.Rules.{rules}
 use native.Mathlib.Omega.{arith}
-use Prim.Native.Nat.{ℕ, ◌+◌, ◌-◌, ◌≤◌}
+use Prim.Native.Nat.{ℕ, ◌+◌, ◌-◌}
 use mathlib.Core.Path.{◌≡◌, refl, ap, ◌∙◌, subst}
 use mathlib.Core.List.{List, ◌++◌}
 use lib.ListN.{length}
-use Rattle.onward.proofs.RoomLaws.{Laying, laying-done, laying-more, laying-next, laying-same, laying-start}
+use Rattle.onward.proofs.RoomLaws.{laying-done, laying-more, laying-next, laying-same, laying-start}
 use Rattle.onward.specs.Rooms.{Lays}
 use Rattle.listing.specs.Lines.{line_count, line_of, lines_from}
 use Rattle.listing.proofs.StepLaws.{lines_end, lines_step, some-line}

@@ -1,16 +1,8 @@
-use borrow.Author.Rules.{rules}
-use native.Mathlib.Omega.{arith}
-use Prim.Native.Nat.{ℕ, ◌+◌, ◌-◌, ◌≤◌}
-use mathlib.Core.Path.{◌≡◌, refl, ap, ◌∙◌, subst}
-use mathlib.Core.List.{List, ◌++◌}
+use Prim.Native.Nat.{◌-◌, ◌≤◌}
+use mathlib.Core.Path.{◌≡◌}
 use lib.ListN.{length}
-use Rattle.onward.proofs.RoomLaws.{Laying, laying-done, laying-more, laying-next, laying-same, laying-start}
-use Rattle.onward.specs.Rooms.{Lays}
-use Rattle.listing.specs.Lines.{line_count, line_of, lines_from}
-use Rattle.listing.proofs.StepLaws.{lines_end, lines_step, some-line}
-use Rattle.listing.proofs.put_later_lines.Lts as lts
-use Rattle.listing.proofs.put_later_lines.Reads as reads
-use Rattle.listing.proofs.put_later_lines.Tie as tie
+use Rattle.onward.proofs.RoomLaws.{Laying}
+use Rattle.listing.specs.Lines.{line_count, lines_from}
 use Rattle.listing.proofs.put_later_lines.Given as goal
 
 abbrev pub invariant-loop-k : goal.invariant-loop-k

@@ -5,7 +5,6 @@ use native.Mathlib.Omega.{arith}
 use Rattle.listing.specs.Lines.{placed}
 use Rattle.listing.specs.Texts.{put_answer, put_room}
 use Rattle.listing.proofs.ListingLaws.{place_none, place-there}
-use borrow.Author.Rules.{rules}
 use Rattle.listing.proofs.put_line.Goals as goal
 
 pub returns-then-lines-k : goal.returns-then-lines-k

@@ -5,7 +5,6 @@ use Rattle.listing.specs.Lines.{step_words}
 use mathlib.Core.Path.{◌∙◌, ap}
 use Rattle.listing.specs.Texts.{text_of, with_all}
 use Rattle.listing.proofs.TextLaws.{first, then}
-use borrow.Author.Rules.{rules}
 use Rattle.listing.proofs.saga_line.Goals as goal
 
 pub returns : goal.returns

@@ -3,7 +3,6 @@ use Rattle.listing.specs.Lines.{phase_word}
 use mathlib.Core.Path.{◌∙◌, ap}
 use Rattle.listing.specs.Texts.{text_of, with_all}
 use Rattle.listing.proofs.TextLaws.{first, then}
-use borrow.Author.Rules.{rules}
 use Rattle.listing.proofs.transaction_line.Goals as goal
 
 pub returns : goal.returns

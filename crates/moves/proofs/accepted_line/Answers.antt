@@ -1,7 +1,6 @@
 use native.Mathlib.Omega.{arith}
 use mathlib.Core.Path.{◌∙◌}
 use Rattle.moves.proofs.SaidLaws.{accepted-left, accepted-told}
-use borrow.Author.Rules.{rules}
 use Rattle.moves.proofs.accepted_line.Goals as goal
 
 pub returns-then-k-eq0 : goal.returns-then-k-eq0

@@ -1,5 +1,4 @@
 use Rattle.moves.proofs.SaidLaws.{first, then}
-use borrow.Author.Rules.{rules}
 use Rattle.moves.proofs.left_line.Goals as goal
 
 pub returns : goal.returns

@@ -1,6 +1,5 @@
 use mathlib.Core.Path.{◌∙◌, sym}
 use Rattle.moves.proofs.SaidLaws.{said-refused, said-told, said-unfit}
-use borrow.Author.Rules.{rules}
 use Rattle.moves.proofs.line.Goals as goal
 
 pub returns-in-Refused : goal.returns-in-Refused

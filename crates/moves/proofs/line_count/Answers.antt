@@ -1,6 +1,5 @@
 use mathlib.Core.Path.{◌∙◌, sym}
 use Rattle.moves.proofs.SaidLaws.{count-refused, count-told, count-unfit}
-use borrow.Author.Rules.{rules}
 use Rattle.moves.proofs.line_count.Goals as goal
 
 pub returns-in_default : goal.returns-in_default

@@ -2,7 +2,6 @@ use mathlib.Core.Path.{◌∙◌, ap}
 use Rattle.listing.specs.Texts.{text_of, with_all}
 use Rattle.moves.proofs.SaidLaws.{first, then}
 use Rattle.plan.specs.Names.{name_at}
-use borrow.Author.Rules.{rules}
 use Rattle.moves.proofs.list_line.Goals as goal
 
 pub returns : goal.returns

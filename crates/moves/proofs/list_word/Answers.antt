@@ -1,5 +1,4 @@
 use Rattle.moves.proofs.SaidLaws.{word_back, word_moved, word-open}
-use borrow.Author.Rules.{rules}
 use Rattle.moves.proofs.list_word.Goals as goal
 
 pub returns-then-saga_committed : goal.returns-then-saga_committed

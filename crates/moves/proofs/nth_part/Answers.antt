@@ -1,6 +1,5 @@
 use Rattle.moves.proofs.SaidLaws.{part-itself, part_step, part-undo}
 use native.Mathlib.Omega.{arith}
-use borrow.Author.Rules.{rules}
 use Rattle.moves.proofs.nth_part.Goals as goal
 
 pub returns-then-k-eq0 : goal.returns-then-k-eq0

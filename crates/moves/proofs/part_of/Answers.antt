@@ -1,6 +1,5 @@
 use Rattle.moves.proofs.SaidLaws.{part-before, part-there}
 use native.Mathlib.Omega.{arith}
-use borrow.Author.Rules.{rules}
 use Rattle.moves.proofs.part_of.Goals as goal
 
 pub returns-then-t-first : goal.returns-then-t-first

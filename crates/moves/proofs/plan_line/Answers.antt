@@ -3,7 +3,6 @@ use Prim.Native.Nat.{ℕ}
 use Rattle.listing.specs.Texts.{text_of, with_all}
 use Rattle.listing.specs.Words.{decimal}
 use Rattle.moves.proofs.SaidLaws.{first, then}
-use borrow.Author.Rules.{rules}
 use Rattle.moves.proofs.plan_line.Goals as goal
 
 pub returns : goal.returns

@@ -1,7 +1,6 @@
 use mathlib.Core.Path.{sym}
 use native.Mathlib.Omega.{arith}
 use lib.ListN.{get_or-eq_default}
-use borrow.Author.Rules.{rules}
 use Rattle.moves.proofs.planned.Goals as goal
 
 pub returns-then-steps-i : goal.returns-then-steps-i

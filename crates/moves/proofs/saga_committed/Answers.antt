@@ -1,5 +1,4 @@
 use Rattle.moves.proofs.SaidLaws.{listed-is, not_listed}
-use borrow.Author.Rules.{rules}
 use Rattle.moves.proofs.saga_committed.Goals as goal
 
 pub returns-then-saga_count-i : goal.returns-then-saga_count-i

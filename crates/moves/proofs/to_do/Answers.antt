@@ -2,7 +2,6 @@ use Rattle.moves.proofs.SaidLaws.{todo-is}
 use mathlib.Core.Path.{◌∙◌, ap, sym}
 use Rattle.closing.specs.declared.NextStep.TheVariants.{NoStep, ToAbort, ToBegin, ToCommit}
 use Rattle.moves.specs.declared.Todo.TheVariants.{Aborts, Begins, Commits}
-use borrow.Author.Rules.{rules}
 use Rattle.moves.proofs.to_do.Goals as goal
 
 pub returns-in-NoStep : goal.returns-in-NoStep

@@ -6,7 +6,6 @@ use Rattle.moves.proofs.SaidLaws.{told-list, told_move}
 use Rattle.moves.specs.Lines.{list_line, move_line, shown}
 use Rattle.moves.specs.declared.ListWord.{ListWord}
 use Rattle.moves.specs.declared.Todo.{Todo}
-use borrow.Author.Rules.{rules}
 use Rattle.moves.proofs.told_line.Goals as goal
 
 pub overflow_cast-lists : goal.overflow_cast-lists

@@ -3,7 +3,6 @@ use Rattle.listing.specs.Texts.{text_of, with_all}
 use Rattle.moves.proofs.SaidLaws.{then}
 use Rattle.moves.specs.Lines.{part_letters}
 use Rattle.moves.specs.declared.Part.{Part}
-use borrow.Author.Rules.{rules}
 use Rattle.moves.proofs.with_part.Goals as goal
 
 pub returns-in-Itself : goal.returns-in-Itself

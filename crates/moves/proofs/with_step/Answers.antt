@@ -2,7 +2,6 @@ use mathlib.Core.Path.{◌∙◌, ap}
 use Rattle.listing.specs.Texts.{text_of, with_all}
 use Rattle.moves.proofs.SaidLaws.{step-named, step-numbered, then}
 use Rattle.plan.specs.Names.{name_at}
-use borrow.Author.Rules.{rules}
 use Rattle.moves.proofs.with_step.Goals as goal
 
 pub returns-then-planned-k : goal.returns-then-planned-k

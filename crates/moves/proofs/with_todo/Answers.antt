@@ -3,7 +3,6 @@ use Rattle.listing.specs.Texts.{text_of, with_all}
 use Rattle.moves.proofs.SaidLaws.{then}
 use Rattle.moves.specs.Lines.{todo_letters}
 use Rattle.moves.specs.declared.Todo.{Todo}
-use borrow.Author.Rules.{rules}
 use Rattle.moves.proofs.with_todo.Goals as goal
 
 pub returns-in-Nothing : goal.returns-in-Nothing

@@ -2,7 +2,6 @@ use mathlib.Core.Path.{◌∙◌, ap, sym}
 use Rattle.listing.specs.Texts.{text_of, with_all}
 use Rattle.moves.specs.Lines.{word_letters}
 use Rattle.moves.specs.declared.ListWord.{ListWord}
-use borrow.Author.Rules.{rules}
 use Rattle.moves.proofs.with_word.Goals as goal
 
 pub returns-in-Moved : goal.returns-in-Moved

@@ -1,9 +1,5 @@
-use borrow.Author.Rules.{rules}
 use native.Mathlib.Omega.{arith}
-use mathlib.Core.Path.{◌≡◌, refl, sym, ◌∙◌}
-use Prim.Native.Nat.{◌-◌, ◌≤◌}
-use lib.ListN.{length, drop}
-use Rattle.plan.specs.Lines.{begins}
+use mathlib.Core.Path.{refl, sym, ◌∙◌}
 use Rattle.plan.proofs.TextLaws.{begins-short, begins-not, begins-more, begins_none, begins-end}
 use Rattle.plan.proofs.begins_with.Goals as goal
 

@@ -1,10 +1,7 @@
-use borrow.Author.Rules.{rules}
-use native.Mathlib.Omega.{arith}
-use mathlib.Core.Path.{◌≡◌, refl, sym, ◌∙◌}
+use mathlib.Core.Path.{◌≡◌}
 use Prim.Native.Nat.{◌-◌, ◌≤◌}
 use lib.ListN.{length, drop}
 use Rattle.plan.specs.Lines.{begins}
-use Rattle.plan.proofs.TextLaws.{begins-short, begins-not, begins-more, begins_none, begins-end}
 use Rattle.plan.proofs.begins_with.Given as goal
 
 abbrev pub invariant-loop-i : goal.invariant-loop-i

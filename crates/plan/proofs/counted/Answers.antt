@@ -1,4 +1,3 @@
-use borrow.Author.Rules.{rules}
 use native.Mathlib.Omega.{arith}
 use mathlib.Core.Path.{◌≡◌, refl, sym, ap, ◌∙◌}
 use mathlib.Core.List.{List, ◌∷◌}
@@ -7,7 +6,6 @@ use lib.ListN.{length, take, drop, length-take}
 use Rattle.plan.specs.declared.Counts.{Counts}
 use Rattle.plan.specs.Lines.{name_of, entry_by, entries_of}
 use Rattle.plan.specs.Reading.{first_unclear}
-use Rattle.plan.specs.Passes.{no_counts}
 use Rattle.plan.proofs.EntryLaws.{end-within, entry_more, no-entries, name-le, unclear-on}
 use Rattle.plan.proofs.CountLaws.{Sum, sum-all, sum-none, sum_more, line-below, unclear-off, first-none, told-all, told_line}
 use Rattle.plan.proofs.counted.Goals as goal

@@ -10,7 +10,6 @@ use Rattle.plan.specs.Passes.{laid}
 use Rattle.plan.proofs.LaidLaws.{length-laid}
 use Rattle.plan.proofs.CountLaws.{length-ends}
 use Rattle.plan.proofs.ReadLaws.{names-bytes, names-within, names-filled, ends-filled}
-use borrow.Author.Rules.{rules}
 use Rattle.plan.proofs.fill.Goals as goal
 
 pub put_names-own-requires : goal.put_names-own-requires

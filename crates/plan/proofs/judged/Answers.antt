@@ -3,7 +3,6 @@ use mathlib.Core.Bool.{false}
 use borrow.Author.Tests.{lt-ltb, le-ltb}
 use lib.ListN.{length}
 use Rattle.plan.specs.Verdict.{most_lists, plan_verdict, too_many_steps, long_name, too_many_lists}
-use borrow.Author.Rules.{rules}
 use Rattle.plan.proofs.judged.Goals as goal
 
 pub returns-then-too_many_steps : goal.returns-then-too_many_steps

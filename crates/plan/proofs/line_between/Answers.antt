@@ -1,6 +1,5 @@
 use mathlib.Core.Path.{ap, ◌∙◌}
 use Rattle.plan.specs.Lines.{up_to_blanks}
-use borrow.Author.Rules.{rules}
 use Rattle.plan.proofs.line_between.Goals as goal
 
 pub returns : goal.returns

@@ -1,9 +1,5 @@
-use borrow.Author.Rules.{rules}
 use native.Mathlib.Omega.{arith}
-use mathlib.Core.Path.{◌≡◌, refl}
-use Prim.Native.Nat.{◌+◌, ◌-◌}
-use lib.ListN.{length, drop}
-use Rattle.plan.specs.Passes.{line_length}
+use mathlib.Core.Path.{refl}
 use Rattle.plan.proofs.TextLaws.{length-stop, length_more, length-end}
 use Rattle.plan.proofs.line_end.Goals as goal
 

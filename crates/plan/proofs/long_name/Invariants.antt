@@ -1,14 +1,8 @@
-use borrow.Author.Rules.{rules}
-use native.Mathlib.Omega.{arith}
-use mathlib.Core.Path.{◌≡◌, refl, sym, ap}
+use mathlib.Core.Path.{◌≡◌}
 use mathlib.Core.Bool.{false}
 use Prim.Native.Nat.{◌-◌, ◌≤◌}
 use lib.ListN.{length}
-use borrow.Author.Tests.{lt-ltb, le-ltb}
 use Rattle.laws.specs.Index.{any_below}
-use Rattle.laws.proofs.IndexLaws.{any_none, search-hit, search-miss, search-end}
-use Rattle.plan.specs.Names.{name_at}
-use Rattle.plan.specs.Verdict.{most_name}
 use Rattle.plan.proofs.VerdictLaws.{is_long}
 use Rattle.plan.proofs.long_name.Given as goal
 

@@ -1,6 +1,5 @@
 use native.Mathlib.Omega.{arith}
 use Rattle.plan.proofs.EntryLaws.{above-some}
-use borrow.Author.Rules.{rules}
 use Rattle.plan.proofs.move_above.Goals as goal
 
 pub returns : goal.returns

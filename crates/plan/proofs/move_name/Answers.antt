@@ -1,8 +1,5 @@
-use borrow.Author.Rules.{rules}
 use native.Mathlib.Omega.{arith}
 use mathlib.Core.Path.{◌≡◌, ap, ◌∙◌}
-use Prim.Native.Nat.{◌-◌, ◌≤◌}
-use lib.ListN.{length}
 use Rattle.plan.specs.Names.{move_name}
 use Rattle.plan.proofs.NameLaws.{names-none, move-more, move_all}
 use Rattle.plan.proofs.move_name.Goals as goal
@@ -14,7 +11,7 @@ pub returns-then-steps-j : goal.returns-then-steps-j
 returns-then-steps-j c = let a = c.before.before.before.before.args in let l = c.before.before.loop-j in move_all a.steps.now l.j l.invariant.2 a.i (omega arith) (omega arith)
 
 pub overflow_add-own : goal.overflow_add-own
-overflow_add-own c = omega (arith, c.shared_slice_known-in-loop-j-1.given c.before.before.before.loop-j.j)
+overflow_add-own c = omega (arith, c.type_inv.steps c.before.before.before.loop-j.j)
 
 pub loop-j-preserved : goal.loop-j-preserved
 loop-j-preserved c =

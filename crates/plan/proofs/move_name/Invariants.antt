@@ -1,10 +1,7 @@
-use borrow.Author.Rules.{rules}
-use native.Mathlib.Omega.{arith}
-use mathlib.Core.Path.{◌≡◌, ap, ◌∙◌}
+use mathlib.Core.Path.{◌≡◌}
 use Prim.Native.Nat.{◌-◌, ◌≤◌}
 use lib.ListN.{length}
 use Rattle.plan.specs.Names.{move_name}
-use Rattle.plan.proofs.NameLaws.{names-none, move-more, move_all}
 use Rattle.plan.proofs.move_name.Given as goal
 
 abbrev pub invariant-loop-j : goal.invariant-loop-j

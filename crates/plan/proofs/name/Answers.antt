@@ -3,7 +3,6 @@ use mathlib.Core.Path.{◌≡◌, ap, ◌∙◌}
 use Prim.Native.Nat.{ℕ, ◌-◌}
 use lib.ListN.{take, drop}
 use Rattle.plan.proofs.NameLaws.{name-between, begin-within}
-use borrow.Author.Rules.{rules}
 use Rattle.plan.proofs.name.Goals as goal
 
 pub slice_bounds-result-end : goal.slice_bounds-result-end

@@ -1,7 +1,6 @@
 use native.Mathlib.Omega.{arith}
 use mathlib.Core.Path.{◌∙◌}
 use Rattle.plan.proofs.NameLaws.{begin-later}
-use borrow.Author.Rules.{rules}
 use Rattle.plan.proofs.name_begin.Goals as goal
 
 pub returns : goal.returns

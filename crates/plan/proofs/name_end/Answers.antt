@@ -1,6 +1,5 @@
 use native.Mathlib.Omega.{arith}
 use lib.ListN.{get_or-eq_default}
-use borrow.Author.Rules.{rules}
 use Rattle.plan.proofs.name_end.Goals as goal
 
 pub returns-then-ends-k : goal.returns-then-ends-k

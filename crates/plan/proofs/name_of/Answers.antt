@@ -1,7 +1,6 @@
 use native.Mathlib.Omega.{arith}
 use Rattle.plan.proofs.TextLaws.{drop-whole}
 use Rattle.plan.proofs.WordLaws.{name-short, name_is}
-use borrow.Author.Rules.{rules}
 use Rattle.plan.proofs.name_of.Goals as goal
 
 pub returns-then-line-lt4 : goal.returns-then-line-lt4

@@ -1,9 +1,5 @@
-use borrow.Author.Rules.{rules}
 use native.Mathlib.Omega.{arith}
-use mathlib.Core.Path.{◌≡◌, refl, sym, ◌∙◌}
-use Prim.Native.Nat.{◌-◌, ◌≤◌}
-use lib.ListN.{length, drop}
-use Rattle.plan.specs.Lines.{past_blanks}
+use mathlib.Core.Path.{refl, sym, ◌∙◌}
 use Rattle.plan.proofs.TextLaws.{drop-whole, past_more, past_stop, past_end}
 use Rattle.plan.proofs.past_blanks.Goals as goal
 

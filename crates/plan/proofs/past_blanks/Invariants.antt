@@ -1,11 +1,7 @@
-use borrow.Author.Rules.{rules}
-use native.Mathlib.Omega.{arith}
-use mathlib.Core.Path.{◌≡◌, refl, sym, ◌∙◌}
+use mathlib.Core.Path.{◌≡◌}
 use Prim.Native.Nat.{◌-◌, ◌≤◌}
 use lib.ListN.{length, drop}
 use Rattle.plan.specs.Lines.{past_blanks}
-use Rattle.laws.proofs.Bools.{on-not, off-not}
-use Rattle.plan.proofs.TextLaws.{drop-whole, past_more, past_stop, past_end}
 use Rattle.plan.proofs.past_blanks.Given as goal
 
 abbrev pub invariant-loop-i : goal.invariant-loop-i

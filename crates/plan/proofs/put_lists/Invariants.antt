@@ -1,17 +1,9 @@
-use borrow.Author.Rules.{rules}
-use native.Mathlib.Omega.{arith}
-use mathlib.Core.Path.{◌≡◌, refl, sym, ap, ◌∙◌}
-use mathlib.Core.List.{◌∷◌}
-use Prim.Native.Nat.{ℕ, ◌+◌, ◌-◌, ◌≤◌}
-use lib.ListN.{length, drop, set, length-set}
-use Rattle.plan.specs.Lines.{name_of, entry_by, entries_of}
-use Rattle.plan.specs.Reading.{move_above, lists_of}
+use mathlib.Core.Path.{◌≡◌}
+use Prim.Native.Nat.{◌+◌, ◌-◌, ◌≤◌}
+use lib.ListN.{length, drop}
+use Rattle.plan.specs.Lines.{entries_of}
+use Rattle.plan.specs.Reading.{lists_of}
 use Rattle.plan.specs.Passes.{laid}
-use Rattle.plan.proofs.LaidLaws.{laid_none, laid_cons}
-use Rattle.plan.proofs.EntryLaws.{end-within, entry_more, no-entries, lists-none, above-le, lists-move, lists-list, lists-other}
-use Rattle.plan.proofs.put_lists.Lts as lts
-use Rattle.plan.proofs.put_lists.Reads as reads
-use Rattle.plan.proofs.put_lists.Tie as tie
 use Rattle.plan.proofs.put_lists.Given as goal
 
 abbrev pub invariant-loop-at : goal.invariant-loop-at

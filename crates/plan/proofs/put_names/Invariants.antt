@@ -1,17 +1,9 @@
-use borrow.Author.Rules.{rules}
-use native.Mathlib.Omega.{arith}
-use mathlib.Core.Path.{◌≡◌, refl, sym, ap, ◌∙◌}
-use mathlib.Core.List.{List, ◌∷◌}
-use Prim.Native.Nat.{ℕ, ◌+◌, ◌-◌, ◌≤◌, ◌<◌}
-use lib.ListN.{length, drop, length-set, length-append}
-use Rattle.plan.specs.Lines.{name_of, entry_by, entries_of}
+use mathlib.Core.Path.{◌≡◌}
+use Prim.Native.Nat.{◌+◌, ◌-◌, ◌≤◌}
+use lib.ListN.{length, drop}
+use Rattle.plan.specs.Lines.{entries_of}
 use Rattle.plan.specs.Reading.{names_in, joined, ends_from}
 use Rattle.plan.specs.Passes.{laid}
-use Rattle.plan.proofs.LaidLaws.{laid_none, laid_cons, laid-append}
-use Rattle.plan.proofs.EntryLaws.{end-within, entry_more, no-entries, names-none, joined-none, joined-cons, ends-none, ends-cons, names-on, names-off}
-use Rattle.plan.proofs.put_names.Lts as lts
-use Rattle.plan.proofs.put_names.Reads as reads
-use Rattle.plan.proofs.put_names.Tie as tie
 use Rattle.plan.proofs.put_names.Given as goal
 
 abbrev pub invariant-loop-at : goal.invariant-loop-at

@@ -5,9 +5,7 @@ use Rattle.plan.specs.declared.Counts.{Counts}
 use Rattle.plan.specs.declared.PlanRead.TheVariants.{Read}
 use Rattle.plan.specs.Lines.{entries_of}
 use Rattle.plan.specs.Reading.{plan_names, plan_ends, plan_steps, plan_lists, room_after}
-use Rattle.plan.proofs.ReadLaws.{room-kept, room-filled, answer-long, answer-not, answer-full, answer-read, told-counts, rooms}
-use borrow.Enum.Refused.{opened}
-use borrow.Author.Rules.{rules}
+use Rattle.plan.proofs.ReadLaws.{room-kept, room-filled, answer-long, answer-not, answer-full, answer-read, told-counts, rooms, NotRead, not-read}
 use Rattle.plan.proofs.read.Goals as goal
 
 pub returns-then-text-gt-BYTES : goal.returns-then-text-gt-BYTES
@@ -25,7 +23,7 @@ pub returns-in_default : goal.returns-in_default
 returns-in_default c =
     let a = c.args in
     let x = c.counted-answer.result in
-    let m = opened c.in_default.in_default-own.keys2 in
+    let m : NotRead x = not-read x c.in_default.not-Read in
     let es = entries_of a.text.now in record {
       value = answer-not a.text.now (length a.names.now) (length a.ends.now) (length a.steps.now) (length a.lists.now) (omega arith) x c.counted-answer.ensures m;
       names_after = room-kept x m (plan_names es) a.names.now;

@@ -1,8 +1,6 @@
-use borrow.Author.Rules.{rules}
 use native.Mathlib.Omega.{arith}
-use mathlib.Core.Path.{◌≡◌, sym, ap, ◌∙◌}
-use Prim.Native.Nat.{◌-◌, ◌≤◌}
-use lib.ListN.{length, take}
+use mathlib.Core.Path.{sym, ap, ◌∙◌}
+use Prim.Native.Nat.{◌-◌}
 use lib.Seq.{take-length, length-take-le}
 use Rattle.plan.specs.Lines.{up_to_blanks}
 use Rattle.plan.proofs.TextLaws.{up_more, up-stop, up_none}

@@ -1,12 +1,7 @@
-use borrow.Author.Rules.{rules}
-use native.Mathlib.Omega.{arith}
-use mathlib.Core.Path.{◌≡◌, sym, ap, ◌∙◌}
-use Prim.Native.Nat.{◌-◌, ◌≤◌}
+use mathlib.Core.Path.{◌≡◌}
+use Prim.Native.Nat.{◌≤◌}
 use lib.ListN.{length, take}
-use lib.Seq.{take-length, length-take-le}
 use Rattle.plan.specs.Lines.{up_to_blanks}
-use Rattle.laws.proofs.Bools.{on-not, off-not}
-use Rattle.plan.proofs.TextLaws.{up_more, up-stop, up_none}
 use Rattle.plan.proofs.up_to_blanks.Given as goal
 
 abbrev pub invariant-loop-n : goal.invariant-loop-n

@@ -1,5 +1,4 @@
 use Rattle.plan.proofs.WordLaws.{word_none, word-hash, word-move, word-step, word-list, word-unclear}
-use borrow.Author.Rules.{rules}
 use Rattle.plan.proofs.word_of.Goals as goal
 
 pub returns-then-line-eq0 : goal.returns-then-line-eq0

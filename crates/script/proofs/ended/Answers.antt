@@ -1,12 +1,5 @@
 use native.Mathlib.Omega.{arith}
-use mathlib.Core.Path.{◌≡◌, refl, sym, ap, ap₂, ◌∙◌}
-use Prim.Native.Nat.{ℕ, ◌+◌, ◌-◌, ◌≤◌, ◌<◌}
-use lib.ListN.{length, get_or, take, drop}
 use Rattle.script.proofs.ByteLaws.{ended_by, remark-none, remark-some}
-use borrow.Author.Rules.{rules}
-use Rattle.script.proofs.ended.Reads as reads
-use Rattle.script.proofs.ended.Lts as lts
-use Rattle.script.proofs.past_blanks.Reads as past-blanks-reads
 use Rattle.script.proofs.ended.Goals as goal
 
 pub returns-then-line-next : goal.returns-then-line-next

@@ -1,11 +1,6 @@
 use lib.ListN.{get_or-eq_default}
 use native.Mathlib.Omega.{arith}
-use mathlib.Core.Path.{◌≡◌, refl, sym, ap, ap₂, ◌∙◌}
-use Prim.Native.Nat.{ℕ, ◌+◌, ◌-◌, ◌≤◌, ◌<◌}
-use lib.ListN.{length, get_or, take, drop}
-use borrow.Author.Rules.{rules}
-use Rattle.script.proofs.field.Reads as reads
-use Rattle.script.proofs.field.Lts as lts
+use mathlib.Core.Path.{sym}
 use Rattle.script.proofs.field.Goals as goal
 
 pub returns-then-fields-n : goal.returns-then-fields-n

@@ -1,6 +1,5 @@
 use Rattle.script.specs.Forms.{table}
 use mathlib.Core.Path.{refl}
-use borrow.Author.Rules.{rules}
 use Rattle.script.proofs.first_line.Goals as goal
 
 pub line_for-requires : goal.line_for-requires

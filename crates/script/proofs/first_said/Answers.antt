@@ -1,21 +1,15 @@
 use Rattle.script.proofs.RowLaws.{first-kept, first_next, first-none, kept-takes, kept-passed, few-first}
 use Rattle.script.specs.declared.Line.{Line}
-use Rattle.script.specs.Scripts.{line_in, one_says, unclear}
-use Rattle.script.specs.Forms.{count_of}
-use borrow.Author.Rules.{rules}
+use Rattle.script.specs.Scripts.{line_in, one_says}
 use native.Mathlib.Omega.{arith}
-use mathlib.Core.Path.{◌≡◌, refl, sym, ap, ap₂, ◌∙◌}
-use mathlib.Core.Bool.{true, false}
-use mathlib.Core.List.{List, [], ◌∷◌, ◌++◌}
-use Prim.Native.Nat.{ℕ, ◌+◌, ◌-◌, ◌≤◌, ◌<◌}
-use lib.ListN.{length, get_or, take, drop}
+use mathlib.Core.Path.{◌≡◌, refl, sym, ap, ◌∙◌}
+use mathlib.Core.List.{List, ◌∷◌}
+use Prim.Native.Nat.{ℕ, ◌+◌, ◌-◌, ◌≤◌}
+use lib.ListN.{length, take, drop}
 use Rattle.plan.specs.Lines.{lines_of}
 use Rattle.plan.proofs.EntryLaws.{end-within}
-use Rattle.script.specs.Forms.{table, forms, most_fields, form_for}
 use Rattle.script.specs.Scripts.{first_says}
-use Rattle.script.proofs.RowLaws.{rows_are, rows-some, all-few, few, every, line-more, no_lines, form-last, form-own, form-other}
-use Rattle.plan.proofs.line_end.Reads as line-end-reads
-use Rattle.script.proofs.one_says.Reads as one-says-reads
+use Rattle.script.proofs.RowLaws.{rows_are, all-few, few, every, line-more, no_lines}
 use Rattle.script.proofs.first_said.Goals as goal
 
 pub loop-at-init : goal.loop-at-init
@@ -27,31 +21,31 @@ loop-at-init c =
 pub slice_bounds-one_says-count : goal.slice_bounds-one_says-count
 slice_bounds-one_says-count c =
     let inside : (c.loop-at.at ≤ c.line_end-end.result) × (c.line_end-end.result ≤ length c.args.rows.now) =
-        end-within c.args.rows.now c.loop-at.at c.line_end-end.result c.line_end-end.ensures (omega arith) in
+    end-within c.args.rows.now c.loop-at.at c.line_end-end.result c.line_end-end.ensures (omega arith) in
     inside.0
 
 pub slice_bounds-one_says-start : goal.slice_bounds-one_says-start
 slice_bounds-one_says-start c =
     let inside : (c.loop-at.at ≤ c.line_end-end.result) × (c.line_end-end.result ≤ length c.args.rows.now) =
-        end-within c.args.rows.now c.loop-at.at c.line_end-end.result c.line_end-end.ensures (omega arith) in
+    end-within c.args.rows.now c.loop-at.at c.line_end-end.result c.line_end-end.ensures (omega arith) in
     inside.0
 
 pub slice_bounds-one_says-end : goal.slice_bounds-one_says-end
 slice_bounds-one_says-end c =
     let inside : (c.loop-at.at ≤ c.line_end-end.result) × (c.line_end-end.result ≤ length c.args.rows.now) =
-        end-within c.args.rows.now c.loop-at.at c.line_end-end.result c.line_end-end.ensures (omega arith) in
+    end-within c.args.rows.now c.loop-at.at c.line_end-end.result c.line_end-end.ensures (omega arith) in
     inside.1
 
 pub one_says-one-requires : goal.one_says-one-requires
 one_says-one-requires c =
     let split : lines_of (drop c.loop-at.at c.args.rows.now) ≡ take (c.line_end-end.result - c.loop-at.at) (drop c.loop-at.at c.args.rows.now) ∷ lines_of (drop (c.line_end-end.result + 1) c.args.rows.now) =
-        line-more c.args.rows.now c.loop-at.at c.line_end-end.result c.line_end-end.ensures (omega arith) in
+    line-more c.args.rows.now c.loop-at.at c.line_end-end.result c.line_end-end.ensures (omega arith) in
     omega (arith, (few-first _ _ _ split c.loop-at.invariant.3).0, c.loop-at.invariant.2)
 
 pub returns-in-Takes : goal.returns-in-Takes
 returns-in-Takes c =
     let split : lines_of (drop c.loop-at.at c.args.rows.now) ≡ take (c.line_end-end.result - c.loop-at.at) (drop c.loop-at.at c.args.rows.now) ∷ lines_of (drop (c.line_end-end.result + 1) c.args.rows.now) =
-        line-more c.args.rows.now c.loop-at.at c.line_end-end.result c.line_end-end.ensures (omega arith) in
+    line-more c.args.rows.now c.loop-at.at c.line_end-end.result c.line_end-end.ensures (omega arith) in
     let a = c.args in
     let l = c.loop-at in
     let s = drop a.start a.line.now in
@@ -64,7 +58,7 @@ returns-in-Takes c =
 pub returns-in-Passed : goal.returns-in-Passed
 returns-in-Passed c =
     let split : lines_of (drop c.loop-at.at c.args.rows.now) ≡ take (c.line_end-end.result - c.loop-at.at) (drop c.loop-at.at c.args.rows.now) ∷ lines_of (drop (c.line_end-end.result + 1) c.args.rows.now) =
-        line-more c.args.rows.now c.loop-at.at c.line_end-end.result c.line_end-end.ensures (omega arith) in
+    line-more c.args.rows.now c.loop-at.at c.line_end-end.result c.line_end-end.ensures (omega arith) in
     let a = c.args in
     let l = c.loop-at in
     let s = drop a.start a.line.now in
@@ -77,19 +71,19 @@ returns-in-Passed c =
 pub overflow_add-at : goal.overflow_add-at
 overflow_add-at c =
     let inside : (c.loop-at.at ≤ c.line_end-end.result) × (c.line_end-end.result ≤ length c.args.rows.now) =
-        end-within c.args.rows.now c.loop-at.at c.line_end-end.result c.line_end-end.ensures (omega arith) in
+    end-within c.args.rows.now c.loop-at.at c.line_end-end.result c.line_end-end.ensures (omega arith) in
     omega arith
 
 pub loop-at-smaller : goal.loop-at-smaller
 loop-at-smaller c =
     let inside : (c.loop-at.at ≤ c.line_end-end.result) × (c.line_end-end.result ≤ length c.args.rows.now) =
-        end-within c.args.rows.now c.loop-at.at c.line_end-end.result c.line_end-end.ensures (omega arith) in
+    end-within c.args.rows.now c.loop-at.at c.line_end-end.result c.line_end-end.ensures (omega arith) in
     omega arith
 
 pub loop-at-preserved : goal.loop-at-preserved
 loop-at-preserved c =
     let split : lines_of (drop c.loop-at.at c.args.rows.now) ≡ take (c.line_end-end.result - c.loop-at.at) (drop c.loop-at.at c.args.rows.now) ∷ lines_of (drop (c.line_end-end.result + 1) c.args.rows.now) =
-        line-more c.args.rows.now c.loop-at.at c.line_end-end.result c.line_end-end.ensures (omega arith) in
+    line-more c.args.rows.now c.loop-at.at c.line_end-end.result c.line_end-end.ensures (omega arith) in
     let a = c.args in
     let l = c.loop-at in
     let s = drop a.start a.line.now in

@@ -1,15 +1,7 @@
-use borrow.Author.Rules.{rules}
 use native.Mathlib.Omega.{arith}
-use mathlib.Core.Path.{◌≡◌, refl, sym, ap, ap₂, ◌∙◌}
-use Prim.Native.Nat.{ℕ, ◌+◌, ◌-◌, ◌≤◌, ◌<◌}
-use lib.ListN.{length, get_or, take, drop}
-use Rattle.laws.proofs.Bools.{on-not, off-not}
-use Rattle.script.specs.Forms.{fits}
+use mathlib.Core.Path.{refl, sym, ◌∙◌}
+use lib.ListN.{get_or}
 use Rattle.script.proofs.FormLaws.{fits-none, fits_not, fits_more, takes-le}
-use Rattle.script.proofs.fits.Reads as reads
-use Rattle.script.proofs.fits.Lts as lts
-use Rattle.script.proofs.is_own.Reads as is-own-reads
-use Rattle.script.proofs.takes.Reads as takes-reads
 use Rattle.script.proofs.fits.Goals as goal
 
 pub loop-i-init : goal.loop-i-init

@@ -1,16 +1,7 @@
 use Rattle.script.proofs.ByteLaws.{found_by_sign, blank-missing, blank-found, letter-missing, letter-found, first-inside}
-use Rattle.laws.proofs.Bools.{on-not, off-not}
 use native.Mathlib.Omega.{arith}
-use lib.ListN.{length, get_or, take, drop}
-use mathlib.Core.Path.{◌≡◌, refl, sym, ap, ◌∙◌}
-use borrow.Author.Rules.{rules}
-use Rattle.script.proofs.found_by.Reads as reads
-use Rattle.script.proofs.found_by.Lts as lts
-use Rattle.script.proofs.blank_at.Reads as blank-at-reads
-use Rattle.script.proofs.numeral.Reads as IsNumeral-reads
-use Rattle.script.proofs.past_blanks.Reads as past-blanks-reads
-use Rattle.script.proofs.sign_of.Reads as sign-of-reads
-use Rattle.script.proofs.stands_at.Reads as stands-at-reads
+use lib.ListN.{drop}
+use mathlib.Core.Path.{sym, ◌∙◌}
 use Rattle.script.proofs.found_by.Goals as goal
 
 pub returns-then-not-blank_at : goal.returns-then-not-blank_at

@@ -1,12 +1,7 @@
 use native.Mathlib.Omega.{arith}
-use mathlib.Core.Path.{◌≡◌, refl, sym, ap, ap₂, ◌∙◌}
-use Prim.Native.Nat.{ℕ, ◌+◌, ◌-◌, ◌≤◌, ◌<◌}
-use lib.ListN.{length, get_or, take, drop}
+use mathlib.Core.Path.{◌∙◌}
+use lib.ListN.{drop}
 use Rattle.script.proofs.ByteLaws.{own-as, own-none, own-some, own-number}
-use borrow.Author.Rules.{rules}
-use Rattle.script.proofs.is_own.Reads as reads
-use Rattle.script.proofs.is_own.Lts as lts
-use Rattle.script.proofs.sign_of.Reads as sign-of-reads
 use Rattle.script.proofs.is_own.Goals as goal
 
 pub returns-then-fields-n : goal.returns-then-fields-n

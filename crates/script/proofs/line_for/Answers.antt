@@ -1,24 +1,15 @@
 use Rattle.script.proofs.RowLaws.{shown-as}
 use Rattle.script.proofs.RowLaws.{line-some}
-use Rattle.script.specs.Forms.{shown, count_of, allows, loose_letter}
-use Rattle.listing.specs.Texts.{with_all}
-use Rattle.listing.specs.Words.{line_feed}
-use borrow.Author.Rules.{rules}
 use native.Mathlib.Omega.{arith}
-use mathlib.Core.Path.{◌≡◌, refl, sym, ap, ap₂, ◌∙◌}
-use mathlib.Core.Bool.{Bool, true, false, ◌&&◌}
-use mathlib.Core.List.{List, [], ◌∷◌, ◌++◌}
-use Prim.Native.Nat.{ℕ, ◌+◌, ◌-◌, ◌≤◌, ◌<◌}
-use lib.ListN.{length, get_or, take, drop}
+use mathlib.Core.Path.{◌≡◌, sym, ap, ap₂, ◌∙◌}
+use mathlib.Core.Bool.{Bool, ◌&&◌}
+use mathlib.Core.List.{List, ◌∷◌}
+use Prim.Native.Nat.{ℕ, ◌+◌, ◌-◌, ◌≤◌}
+use lib.ListN.{length, take, drop}
 use Rattle.plan.specs.Lines.{lines_of}
 use Rattle.plan.proofs.EntryLaws.{end-within}
-use Rattle.script.specs.Forms.{table, forms, most_fields, form_for}
-use Rattle.script.specs.Scripts.{first_says}
-use Rattle.script.proofs.RowLaws.{rows_are, rows-some, all-few, few, every, line-more, no_lines, form-last, form-own, form-other}
-use Rattle.plan.proofs.line_end.Reads as line-end-reads
-use Rattle.script.proofs.allows.Reads as allows-reads
-use Rattle.script.proofs.fits.Reads as fits-reads
-use Rattle.script.proofs.shown_by.Reads as shown-by-reads
+use Rattle.script.specs.Forms.{forms, form_for}
+use Rattle.script.proofs.RowLaws.{rows_are, rows-some, line-more, no_lines, form-last, form-own, form-other}
 use Rattle.script.proofs.line_for.Goals as goal
 
 -- the row of a turn
@@ -31,31 +22,31 @@ loop-form-init c = let a = c.args in (rows-some a.rows.now c.requires, ap (λ (l
 pub slice_bounds-form-count : goal.slice_bounds-form-count
 slice_bounds-form-count c =
     let inside : (c.loop-form.at ≤ c.line_end-end.result) × (c.line_end-end.result ≤ length c.args.rows.now) =
-        end-within c.args.rows.now c.loop-form.at c.line_end-end.result c.line_end-end.ensures (omega arith) in
+    end-within c.args.rows.now c.loop-form.at c.line_end-end.result c.line_end-end.ensures (omega arith) in
     inside.0
 
 pub slice_bounds-form-start : goal.slice_bounds-form-start
 slice_bounds-form-start c =
     let inside : (c.loop-form.at ≤ c.line_end-end.result) × (c.line_end-end.result ≤ length c.args.rows.now) =
-        end-within c.args.rows.now c.loop-form.at c.line_end-end.result c.line_end-end.ensures (omega arith) in
+    end-within c.args.rows.now c.loop-form.at c.line_end-end.result c.line_end-end.ensures (omega arith) in
     inside.0
 
 pub slice_bounds-form-end : goal.slice_bounds-form-end
 slice_bounds-form-end c =
     let inside : (c.loop-form.at ≤ c.line_end-end.result) × (c.line_end-end.result ≤ length c.args.rows.now) =
-        end-within c.args.rows.now c.loop-form.at c.line_end-end.result c.line_end-end.ensures (omega arith) in
+    end-within c.args.rows.now c.loop-form.at c.line_end-end.result c.line_end-end.ensures (omega arith) in
     inside.1
 
 pub overflow_add-next : goal.overflow_add-next
 overflow_add-next c =
     let inside : (c.loop-form.at ≤ c.line_end-end.result) × (c.line_end-end.result ≤ length c.args.rows.now) =
-        end-within c.args.rows.now c.loop-form.at c.line_end-end.result c.line_end-end.ensures (omega arith) in
+    end-within c.args.rows.now c.loop-form.at c.line_end-end.result c.line_end-end.ensures (omega arith) in
     omega arith
 
 pub returns-then-rows-next : goal.returns-then-rows-next
 returns-then-rows-next c =
     let split : form_for forms c.args.letter c.args.fields.now ≡ form_for (row c.args.rows.now c.loop-form.at c.line_end-end.result ∷ lines_of (drop (c.line_end-end.result + 1) c.args.rows.now)) c.args.letter c.args.fields.now =
-        c.loop-form.invariant.1 ∙ ap (λ (l : List (List ℕ)). form_for l c.args.letter c.args.fields.now) (line-more c.args.rows.now c.loop-form.at c.line_end-end.result c.line_end-end.ensures (omega arith)) in
+    c.loop-form.invariant.1 ∙ ap (λ (l : List (List ℕ)). form_for l c.args.letter c.args.fields.now) (line-more c.args.rows.now c.loop-form.at c.line_end-end.result c.line_end-end.ensures (omega arith)) in
     let a = c.args in
     let s = shown-as (row c.args.rows.now c.loop-form.at c.line_end-end.result) _ a.fields.now c.shown_by.result (split ∙ form-last a.letter a.fields.now (row c.args.rows.now c.loop-form.at c.line_end-end.result) _ (no_lines a.rows.now (c.line_end-end.result + 1) (omega arith))) (c.shown_by.ensures.text_value, c.shown_by.ensures.fields_value) in
     record { text_value = s.0; fields_value = s.1 }
@@ -63,24 +54,24 @@ returns-then-rows-next c =
 pub returns-then-allows-fits : goal.returns-then-allows-fits
 returns-then-allows-fits c =
     let split : form_for forms c.args.letter c.args.fields.now ≡ form_for (row c.args.rows.now c.loop-form.at c.line_end-end.result ∷ lines_of (drop (c.line_end-end.result + 1) c.args.rows.now)) c.args.letter c.args.fields.now =
-        c.loop-form.invariant.1 ∙ ap (λ (l : List (List ℕ)). form_for l c.args.letter c.args.fields.now) (line-more c.args.rows.now c.loop-form.at c.line_end-end.result c.line_end-end.ensures (omega arith)) in
+    c.loop-form.invariant.1 ∙ ap (λ (l : List (List ℕ)). form_for l c.args.letter c.args.fields.now) (line-more c.args.rows.now c.loop-form.at c.line_end-end.result c.line_end-end.ensures (omega arith)) in
     let a = c.args in
     let tests = ap₂ (λ (u v : Bool). u && v) (sym c.allows.ensures) (sym c.fits.ensures) in
     let s = shown-as (row c.args.rows.now c.loop-form.at c.line_end-end.result) _ a.fields.now c.shown_by-then-allows-fits.result
-        (split ∙ form-own a.letter a.fields.now (row c.args.rows.now c.loop-form.at c.line_end-end.result) _ _ _ (line-some a.rows.now (c.line_end-end.result + 1) (omega arith)) (tests ∙ c.if-allows-fits.true))
-        (c.shown_by-then-allows-fits.ensures.text_value, c.shown_by-then-allows-fits.ensures.fields_value) in
+    (split ∙ form-own a.letter a.fields.now (row c.args.rows.now c.loop-form.at c.line_end-end.result) _ _ _ (line-some a.rows.now (c.line_end-end.result + 1) (omega arith)) (tests ∙ c.if-allows-fits.true))
+    (c.shown_by-then-allows-fits.ensures.text_value, c.shown_by-then-allows-fits.ensures.fields_value) in
     record { text_value = s.0; fields_value = s.1 }
 
 pub loop-form-smaller : goal.loop-form-smaller
 loop-form-smaller c =
     let inside : (c.loop-form.at ≤ c.line_end-end.result) × (c.line_end-end.result ≤ length c.args.rows.now) =
-        end-within c.args.rows.now c.loop-form.at c.line_end-end.result c.line_end-end.ensures (omega arith) in
+    end-within c.args.rows.now c.loop-form.at c.line_end-end.result c.line_end-end.ensures (omega arith) in
     omega arith
 
 pub loop-form-preserved : goal.loop-form-preserved
 loop-form-preserved c =
     let split : form_for forms c.args.letter c.args.fields.now ≡ form_for (row c.args.rows.now c.loop-form.at c.line_end-end.result ∷ lines_of (drop (c.line_end-end.result + 1) c.args.rows.now)) c.args.letter c.args.fields.now =
-        c.loop-form.invariant.1 ∙ ap (λ (l : List (List ℕ)). form_for l c.args.letter c.args.fields.now) (line-more c.args.rows.now c.loop-form.at c.line_end-end.result c.line_end-end.ensures (omega arith)) in
+    c.loop-form.invariant.1 ∙ ap (λ (l : List (List ℕ)). form_for l c.args.letter c.args.fields.now) (line-more c.args.rows.now c.loop-form.at c.line_end-end.result c.line_end-end.ensures (omega arith)) in
     let a = c.args in
     let tests = ap₂ (λ (u v : Bool). u && v) (sym c.allows.ensures) (sym c.fits.ensures) in
     (omega arith, split ∙ form-other a.letter a.fields.now (row c.args.rows.now c.loop-form.at c.line_end-end.result) _ _ _ (line-some a.rows.now (c.line_end-end.result + 1) (omega arith)) (tests ∙ c.if-allows-fits.false))

@@ -1,14 +1,8 @@
-use Rattle.laws.proofs.Bools.{off-not}
 use Rattle.script.specs.Forms.{table}
 use native.Mathlib.Omega.{arith}
-use mathlib.Core.Path.{◌≡◌, refl, sym, ap, ap₂, ◌∙◌}
-use mathlib.Core.Bool.{true, false}
-use mathlib.Core.List.{List, [], ◌∷◌, ◌++◌}
-use Prim.Native.Nat.{ℕ, ◌+◌, ◌-◌, ◌≤◌, ◌<◌}
-use lib.ListN.{length, get_or, take, drop}
-use Rattle.script.specs.Scripts.{first_says}
+use mathlib.Core.Path.{refl, sym, ◌∙◌}
+use lib.ListN.{take, drop}
 use Rattle.script.proofs.ReadLaws.{line-passes, line-says}
-use borrow.Author.Rules.{rules}
 use Rattle.script.proofs.line_says.Goals as goal
 
 pub returns-then-ended : goal.returns-then-ended

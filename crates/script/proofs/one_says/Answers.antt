@@ -1,14 +1,8 @@
 use Rattle.script.proofs.RowLaws.{one-not, one-another, one-fields}
 use Rattle.script.specs.Scripts.{said_in}
 use Rattle.script.specs.declared.Said.{Said}
-use Rattle.laws.proofs.Bools.{on-not, off-not}
-use lib.ListN.{length, get_or, take, drop}
-use mathlib.Core.Path.{◌≡◌, refl, sym, ap, ◌∙◌}
-use borrow.Author.Rules.{rules}
-use Rattle.script.proofs.one_says.Reads as reads
-use Rattle.script.proofs.one_says.Lts as lts
-use Rattle.script.proofs.allows.Reads as allows-reads
-use Rattle.script.proofs.said_by.Reads as said-by-reads
+use lib.ListN.{take, drop}
+use mathlib.Core.Path.{refl, sym, ap, ◌∙◌}
 use Rattle.script.proofs.one_says.Goals as goal
 
 pub returns-then-not-allows : goal.returns-then-not-allows

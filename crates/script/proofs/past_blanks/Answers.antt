@@ -3,15 +3,11 @@ use lib.ListN.{length, drop, length-drop}
 use mathlib.Core.List.{List}
 use Prim.Native.Nat.{ℕ}
 use mathlib.Core.Bool.{true}
-use mathlib.Core.Path.{◌≡◌, sym, ap, ◌∙◌}
+use mathlib.Core.Path.{sym, ap, ◌∙◌}
 use Rattle.script.proofs.ByteLaws.{past-place}
 use Rattle.plan.specs.Lines.{past_blanks}
 use Rattle.plan.proofs.EntryLaws.{past-le}
 use Rattle.plan.proofs.TextLaws.{past_end, drop-whole}
-use borrow.Author.Rules.{rules}
-use Rattle.script.proofs.past_blanks.Reads as reads
-use Rattle.script.proofs.past_blanks.Lts as lts
-use Rattle.plan.proofs.past_blanks.Reads as past-blanks-reads
 use Rattle.script.proofs.past_blanks.Goals as goal
 
 pub returns-then-line-at : goal.returns-then-line-at

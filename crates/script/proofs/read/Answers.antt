@@ -1,23 +1,13 @@
 use Rattle.script.proofs.ReadLaws.{told-as}
 use lib.Seq.{length-take-le}
-use mathlib.Core.Logic.{⊎_elim}
 use Rattle.script.specs.Scripts.{line_says, line_in}
 use Rattle.script.specs.Stages.{letter_of}
-use borrow.Author.Rules.{rules}
 use native.Mathlib.Omega.{arith}
-use mathlib.Core.Path.{◌≡◌, refl, sym, ap, ap₂, ◌∙◌}
-use mathlib.Core.Bool.{true, false}
-use mathlib.Core.List.{List, [], ◌∷◌, ◌++◌}
-use Prim.Native.Nat.{ℕ, ◌+◌, ◌-◌, ◌≤◌, ◌<◌}
-use lib.ListN.{length, get_or, take, drop}
-use Rattle.script.proofs.ReadLaws.{Told, told-first, told-end, told-unclear, told-passed, told_more, told-takes, script-small, script-room}
+use mathlib.Core.Path.{◌≡◌, refl, sym, ap, ◌∙◌}
+use Prim.Native.Nat.{ℕ, ◌+◌, ◌-◌, ◌≤◌}
+use lib.ListN.{length, take, drop}
+use Rattle.script.proofs.ReadLaws.{told-first, told-end, told-unclear, told-passed, told_more, told-takes, script-small, script-room}
 use Rattle.plan.proofs.EntryLaws.{end-within}
-use Rattle.plan.proofs.line_end.Reads as line-end-reads
-use Rattle.script.proofs.Due.after.Reads as after-reads
-use Rattle.script.proofs.Due.first.Reads as first_reads
-use Rattle.script.proofs.Due.letter.Reads as letter-reads
-use Rattle.script.proofs.field.Reads as field-reads
-use Rattle.script.proofs.line_says.Reads as line-says-reads
 use Rattle.script.proofs.read.Goals.{in-Takes+else-most-m, in-Passed}
 use Rattle.script.proofs.read.Goals as goal
 
@@ -33,28 +23,28 @@ loop-at-init c = let a = c.args in (omega arith, told-as a.text.now a.most (leng
 pub slice_bounds-line_says-count : goal.slice_bounds-line_says-count
 slice_bounds-line_says-count c =
     let inside : (c.loop-at.at ≤ c.line_end-end.result) × (c.line_end-end.result ≤ length c.args.text.now) =
-        end-within c.args.text.now c.loop-at.at c.line_end-end.result c.line_end-end.ensures (omega arith) in
+    end-within c.args.text.now c.loop-at.at c.line_end-end.result c.line_end-end.ensures (omega arith) in
     inside.0
 
 pub slice_bounds-line_says-start : goal.slice_bounds-line_says-start
 slice_bounds-line_says-start c =
     let inside : (c.loop-at.at ≤ c.line_end-end.result) × (c.line_end-end.result ≤ length c.args.text.now) =
-        end-within c.args.text.now c.loop-at.at c.line_end-end.result c.line_end-end.ensures (omega arith) in
+    end-within c.args.text.now c.loop-at.at c.line_end-end.result c.line_end-end.ensures (omega arith) in
     inside.0
 
 pub slice_bounds-line_says-end : goal.slice_bounds-line_says-end
 slice_bounds-line_says-end c =
     let inside : (c.loop-at.at ≤ c.line_end-end.result) × (c.line_end-end.result ≤ length c.args.text.now) =
-        end-within c.args.text.now c.loop-at.at c.line_end-end.result c.line_end-end.ensures (omega arith) in
+    end-within c.args.text.now c.loop-at.at c.line_end-end.result c.line_end-end.ensures (omega arith) in
     inside.1
 
 pub returns-then-most-m : goal.returns-then-most-m
 returns-then-most-m c =
     let inside : (c.loop-at.at ≤ c.line_end-end.result) × (c.line_end-end.result ≤ length c.args.text.now) =
-        end-within c.args.text.now c.loop-at.at c.line_end-end.result c.line_end-end.ensures (omega arith) in
+    end-within c.args.text.now c.loop-at.at c.line_end-end.result c.line_end-end.ensures (omega arith) in
     let said : line_in c.line_says-line.result c.line_says-line.new.room ≡ line_says (letter_of c.loop-at.due.stage c.loop-at.due.edition) (take (c.line_end-end.result - c.loop-at.at) (drop c.loop-at.at c.args.text.now)) (take c.loop-at.n c.loop-at.room) =
-        c.line_says-line.ensures.room_after
-        ∙ ap (λ (k : ℕ). line_says k (take (c.line_end-end.result - c.loop-at.at) (drop c.loop-at.at c.args.text.now)) (take c.loop-at.n c.loop-at.room)) c.letter-letter.ensures in
+    c.line_says-line.ensures.room_after
+    ∙ ap (λ (k : ℕ). line_says k (take (c.line_end-end.result - c.loop-at.at) (drop c.loop-at.at c.args.text.now)) (take c.loop-at.n c.loop-at.room)) c.letter-letter.ensures in
     let a = c.args in
     let l = c.loop-at in
     sym (told_more a.text.now a.most (length a.room.now) l.room l.due l.n l.number l.at l.invariant.1
@@ -71,10 +61,10 @@ slice_bounds-field-end-in-Takes c = let k = c.line_says-line.auto.room in sym (l
 pub returns-in-Unclear : goal.returns-in-Unclear
 returns-in-Unclear c =
     let inside : (c.loop-at.at ≤ c.line_end-end.result) × (c.line_end-end.result ≤ length c.args.text.now) =
-        end-within c.args.text.now c.loop-at.at c.line_end-end.result c.line_end-end.ensures (omega arith) in
+    end-within c.args.text.now c.loop-at.at c.line_end-end.result c.line_end-end.ensures (omega arith) in
     let said : line_in c.line_says-line.result c.line_says-line.new.room ≡ line_says (letter_of c.loop-at.due.stage c.loop-at.due.edition) (take (c.line_end-end.result - c.loop-at.at) (drop c.loop-at.at c.args.text.now)) (take c.loop-at.n c.loop-at.room) =
-        c.line_says-line.ensures.room_after
-        ∙ ap (λ (k : ℕ). line_says k (take (c.line_end-end.result - c.loop-at.at) (drop c.loop-at.at c.args.text.now)) (take c.loop-at.n c.loop-at.room)) c.letter-letter.ensures in
+    c.line_says-line.ensures.room_after
+    ∙ ap (λ (k : ℕ). line_says k (take (c.line_end-end.result - c.loop-at.at) (drop c.loop-at.at c.args.text.now)) (take c.loop-at.n c.loop-at.room)) c.letter-letter.ensures in
     let a = c.args in
     let l = c.loop-at in
     sym (told-unclear a.text.now a.most (length a.room.now) l.room l.due l.n l.number l.at l.invariant.1
@@ -84,34 +74,34 @@ returns-in-Unclear c =
 pub overflow_add-at : goal.overflow_add-at
 overflow_add-at c =
     let inside : (c.loop-at.at ≤ c.line_end-end.result) × (c.line_end-end.result ≤ length c.args.text.now) =
-        end-within c.args.text.now c.loop-at.at c.line_end-end.result c.line_end-end.ensures (omega arith) in
+    end-within c.args.text.now c.loop-at.at c.line_end-end.result c.line_end-end.ensures (omega arith) in
     omega arith
 
 pub loop-at-smaller : goal.loop-at-smaller
 loop-at-smaller c =
     let inside : (c.loop-at.at ≤ c.line_end-end.result) × (c.line_end-end.result ≤ length c.args.text.now) =
-        end-within c.args.text.now c.loop-at.at c.line_end-end.result c.line_end-end.ensures (omega arith) in
+    end-within c.args.text.now c.loop-at.at c.line_end-end.result c.line_end-end.ensures (omega arith) in
     omega arith
 
 pub loop-at-preserved : goal.loop-at-preserved
 loop-at-preserved c =
     let inside : (c.loop-at.at ≤ c.line_end-end.result) × (c.line_end-end.result ≤ length c.args.text.now) =
-        end-within c.args.text.now c.loop-at.at c.line_end-end.result c.line_end-end.ensures (omega arith) in
+    end-within c.args.text.now c.loop-at.at c.line_end-end.result c.line_end-end.ensures (omega arith) in
     let said : line_in c.line_says-line.result c.line_says-line.new.room ≡ line_says (letter_of c.loop-at.due.stage c.loop-at.due.edition) (take (c.line_end-end.result - c.loop-at.at) (drop c.loop-at.at c.args.text.now)) (take c.loop-at.n c.loop-at.room) =
-        c.line_says-line.ensures.room_after
-        ∙ ap (λ (k : ℕ). line_says k (take (c.line_end-end.result - c.loop-at.at) (drop c.loop-at.at c.args.text.now)) (take c.loop-at.n c.loop-at.room)) c.letter-letter.ensures in
+    c.line_says-line.ensures.room_after
+    ∙ ap (λ (k : ℕ). line_says k (take (c.line_end-end.result - c.loop-at.at) (drop c.loop-at.at c.args.text.now)) (take c.loop-at.n c.loop-at.room)) c.letter-letter.ensures in
     let a = c.args in
     let l = c.loop-at in (
       l.invariant.0,
       elim c.match-line.branch [
-          | in-Takes+else-most-m w ↦ told-as a.text.now a.most (length a.room.now) _ (l.number + 1) (c.line_end-end.result + 1) (w.due-is ∙ w.after-next.ensures) w.n-is
-          (told-takes a.text.now a.most (length a.room.now) l.room l.due l.n l.number l.at l.invariant.1
-          c.line_end-end.result c.line_end-end.ensures (omega arith) inside.1 _ c.line_says-line.ensures.room_unchanged c.line_says-line.auto.room c.line_says-line.result said
-          w.in-Takes.m w.in-Takes.loose w.in-Takes.is (omega (arith, w.if-most-m.false)) w.field-first.result w.field-first.ensures)
-          | in-Passed w ↦ told-as a.text.now a.most (length a.room.now) _ (l.number + 1) (c.line_end-end.result + 1) w.due-is w.n-is
-          (told-passed a.text.now a.most (length a.room.now) l.room l.due l.n l.number l.at l.invariant.1
-          c.line_end-end.result c.line_end-end.ensures (omega arith) inside.1 _ c.line_says-line.ensures.room_unchanged c.line_says-line.auto.room c.line_says-line.result said
-          w.in-Passed.is)
+        | in-Takes+else-most-m w ↦ told-as a.text.now a.most (length a.room.now) _ (l.number + 1) (c.line_end-end.result + 1) (w.due-is ∙ w.after-next.ensures) w.n-is
+            (told-takes a.text.now a.most (length a.room.now) l.room l.due l.n l.number l.at l.invariant.1
+            c.line_end-end.result c.line_end-end.ensures (omega arith) inside.1 _ c.line_says-line.ensures.room_unchanged c.line_says-line.auto.room c.line_says-line.result said
+            w.in-Takes.m w.in-Takes.loose w.in-Takes.is (omega (arith, w.if-most-m.false)) w.field-first.result w.field-first.ensures)
+        | in-Passed w ↦ told-as a.text.now a.most (length a.room.now) _ (l.number + 1) (c.line_end-end.result + 1) w.due-is w.n-is
+            (told-passed a.text.now a.most (length a.room.now) l.room l.due l.n l.number l.at l.invariant.1
+            c.line_end-end.result c.line_end-end.ensures (omega arith) inside.1 _ c.line_says-line.ensures.room_unchanged c.line_says-line.auto.room c.line_says-line.result said
+            w.in-Passed.is)
       ],
     )
 

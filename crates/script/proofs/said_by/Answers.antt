@@ -1,21 +1,11 @@
-use Rattle.script.proofs.FormLaws.{Heard, heard-goes, heard-speaks, heard-as, room-left}
+use Rattle.script.proofs.FormLaws.{heard-goes, heard-speaks, heard-as, room-left}
 use Rattle.script.specs.declared.Found.{Found}
 use Rattle.script.specs.Scripts.{found_in}
-use Rattle.script.specs.Forms.{goes, speaks, other, found_by, takes}
-use Rattle.script.proofs.FormLaws.{count-more, says-end, says-goes, says-speaks, says_other, speaks-takes}
-use Rattle.laws.proofs.Bools.{on-not, off-not}
-use mathlib.Core.Logic.{⊎_elim}
-use borrow.Author.Rules.{rules}
+use Rattle.script.proofs.FormLaws.{says-end, says_other}
 use native.Mathlib.Omega.{arith}
-use mathlib.Core.Path.{◌≡◌, refl, sym, ap, ap₂, ◌∙◌}
-use Prim.Native.Nat.{ℕ, ◌+◌, ◌-◌, ◌≤◌, ◌<◌}
-use lib.ListN.{length, get_or, take, drop}
-use mathlib.Core.List.{List, [], ◌∷◌, ◌++◌}
-use Rattle.script.specs.Forms.{count_of, says}
-use Rattle.script.proofs.said_by.Reads as reads
-use Rattle.script.proofs.said_by.Lts as lts
-use Rattle.script.proofs.ended.Reads as ended-reads
-use Rattle.script.proofs.found_by.Reads as found-by-reads
+use mathlib.Core.Path.{refl, sym, ap, ◌∙◌}
+use Prim.Native.Nat.{◌+◌}
+use lib.ListN.{take, drop}
 use Rattle.script.proofs.said_by.Goals.{in-Goes, in-Speaks}
 use Rattle.script.proofs.said_by.Goals as goal
 
@@ -41,12 +31,12 @@ loop-i-preserved c =
     let line = a.line.now in
     let room = a.room.now in
     elim c.match-found.branch [
-    | in-Goes w ↦ heard-as form line room a.start a.from (l.i + 1) w.room-is w.at-is w.n-is
-    (heard-goes form line room a.start a.from l.i l.n l.at l.room (omega arith) l.invariant w.in-Goes.next
-    (sym (ap (λ (f : Found). found_in f line) w.in-Goes.is) ∙ c.found_by-found.ensures))
-    | in-Speaks w ↦ heard-as form line room a.start a.from (l.i + 1) w.room-is w.at-is w.n-is
-    (heard-speaks form line room a.start a.from l.i l.n l.at l.room (omega arith) l.invariant w.in-Speaks.v w.in-Speaks.next
-    (sym (ap (λ (f : Found). found_in f line) w.in-Speaks.is) ∙ c.found_by-found.ensures))
+      | in-Goes w ↦ heard-as form line room a.start a.from (l.i + 1) w.room-is w.at-is w.n-is
+          (heard-goes form line room a.start a.from l.i l.n l.at l.room (omega arith) l.invariant w.in-Goes.next
+          (sym (ap (λ (f : Found). found_in f line) w.in-Goes.is) ∙ c.found_by-found.ensures))
+      | in-Speaks w ↦ heard-as form line room a.start a.from (l.i + 1) w.room-is w.at-is w.n-is
+          (heard-speaks form line room a.start a.from l.i l.n l.at l.room (omega arith) l.invariant w.in-Speaks.v w.in-Speaks.next
+          (sym (ap (λ (f : Found). found_in f line) w.in-Speaks.is) ∙ c.found_by-found.ensures))
     ]
 
 pub returns-then-not-ended : goal.returns-then-not-ended

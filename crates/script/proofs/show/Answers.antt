@@ -3,24 +3,15 @@ use borrow.Rule.Slice.PartMut.{same_len_mid}
 use Rattle.script.specs.Scripts.{form_due}
 use Rattle.script.specs.Stages.{letter_of}
 use Rattle.script.specs.Forms.{shown, count_of, allows, loose_letter}
-use Rattle.listing.specs.Texts.{text_of, put_answer, put_room}
+use Rattle.listing.specs.Texts.{text_of}
 use Rattle.listing.specs.Words.{line_feed}
 use Rattle.plan.proofs.TextLaws.{drop-whole}
-use Rattle.script.proofs.ShowLaws.{Laid, laid-first, laid_end, laid_none, laid-fits, laid_more, line-shown, says-one, Small, small-drop}
-use borrow.Author.Rules.{rules}
+use Rattle.script.proofs.ShowLaws.{laid-first, laid_end, laid_none, laid-fits, laid_more, line-shown, says-one, Small, small-drop}
 use native.Mathlib.Omega.{arith}
-use mathlib.Core.Path.{◌≡◌, refl, sym, ap, ap₂, ◌∙◌}
-use mathlib.Core.Bool.{true, false}
-use mathlib.Core.List.{List, [], ◌∷◌, ◌++◌}
-use Prim.Native.Nat.{ℕ, ◌+◌, ◌-◌, ◌≤◌, ◌<◌}
-use lib.ListN.{length, get_or, take, drop}
-use Rattle.script.specs.Stages.{first_due}
-use Rattle.script.specs.Scripts.{book_text, text_from}
-use Rattle.listing.proofs.Text.put.Reads as put_reads
-use Rattle.script.proofs.Due.after.Reads as after-reads
-use Rattle.script.proofs.Due.first.Reads as first_reads
-use Rattle.script.proofs.Due.letter.Reads as letter-reads
-use Rattle.script.proofs.first_line.Reads as first-line-reads
+use mathlib.Core.Path.{◌≡◌, sym, ◌∙◌}
+use mathlib.Core.List.{◌++◌}
+use Prim.Native.Nat.{◌-◌}
+use lib.ListN.{length, take, drop}
 use Rattle.script.proofs.show.Goals as goal
 
 pub loop-at-init : goal.loop-at-init
@@ -38,10 +29,10 @@ slice_bounds-put-end c = omega arith
 pub returns-in_default : goal.returns-in_default
 returns-in_default c =
     let line : (text_of c.first_line-line.result.text ≡ shown (form_due c.loop-at.due (drop c.loop-at.at c.args.fields.now)) (drop c.loop-at.at c.args.fields.now) ++ line_feed) × ((c.first_line-line.result.fields ≡ count_of (form_due c.loop-at.due (drop c.loop-at.at c.args.fields.now))) × (c.first_line-line.result.loose ≡ allows (form_due c.loop-at.due (drop c.loop-at.at c.args.fields.now)) loose_letter)) =
-        let fs = c.args.fields.now in
-        let small : Small fs = λ i. omega (arith, c.type_inv.fields i) in
-        line-shown c.letter-letter.result (letter_of c.loop-at.due.stage c.loop-at.due.edition) (take (length fs - c.loop-at.at) (drop c.loop-at.at fs)) (drop c.loop-at.at fs) c.first_line-line.result
-        c.letter-letter.ensures (drop-whole fs c.loop-at.at) (small-drop fs c.loop-at.at small) (c.first_line-line.ensures.text_value, c.first_line-line.ensures.fields_value) in
+    let fs = c.args.fields.now in
+    let small : Small fs = λ i. omega (arith, c.type_inv.fields i) in
+    line-shown c.letter-letter.result (letter_of c.loop-at.due.stage c.loop-at.due.edition) (take (length fs - c.loop-at.at) (drop c.loop-at.at fs)) (drop c.loop-at.at fs) c.first_line-line.result
+    c.letter-letter.ensures (drop-whole fs c.loop-at.at) (small-drop fs c.loop-at.at small) (c.first_line-line.ensures.text_value, c.first_line-line.ensures.fields_value) in
     let l = c.loop-at in
     laid_none c.args.fields.now (length c.args.room.now) l.room l.due l.n l.at l.invariant (omega arith) (text_of c.first_line-line.result.text) line.0
     (sym c.in_default.is ∙ c.put-put.ensures.0)
@@ -49,10 +40,10 @@ returns-in_default c =
 pub overflow_add-n : goal.overflow_add-n
 overflow_add-n c =
     let line : (text_of c.first_line-line.result.text ≡ shown (form_due c.loop-at.due (drop c.loop-at.at c.args.fields.now)) (drop c.loop-at.at c.args.fields.now) ++ line_feed) × ((c.first_line-line.result.fields ≡ count_of (form_due c.loop-at.due (drop c.loop-at.at c.args.fields.now))) × (c.first_line-line.result.loose ≡ allows (form_due c.loop-at.due (drop c.loop-at.at c.args.fields.now)) loose_letter)) =
-        let fs = c.args.fields.now in
-        let small : Small fs = λ i. omega (arith, c.type_inv.fields i) in
-        line-shown c.letter-letter.result (letter_of c.loop-at.due.stage c.loop-at.due.edition) (take (length fs - c.loop-at.at) (drop c.loop-at.at fs)) (drop c.loop-at.at fs) c.first_line-line.result
-        c.letter-letter.ensures (drop-whole fs c.loop-at.at) (small-drop fs c.loop-at.at small) (c.first_line-line.ensures.text_value, c.first_line-line.ensures.fields_value) in
+    let fs = c.args.fields.now in
+    let small : Small fs = λ i. omega (arith, c.type_inv.fields i) in
+    line-shown c.letter-letter.result (letter_of c.loop-at.due.stage c.loop-at.due.edition) (take (length fs - c.loop-at.at) (drop c.loop-at.at fs)) (drop c.loop-at.at fs) c.first_line-line.result
+    c.letter-letter.ensures (drop-whole fs c.loop-at.at) (small-drop fs c.loop-at.at small) (c.first_line-line.ensures.text_value, c.first_line-line.ensures.fields_value) in
     let l = c.loop-at in
     let fits = laid-fits c.args.fields.now (length c.args.room.now) l.room l.due l.n l.at l.invariant (omega arith) (text_of c.first_line-line.result.text) line.0
     c.put-put.new.room c.in-Wrote.more
@@ -65,30 +56,30 @@ overflow_cast-fields c = omega (arith, c.type_inv.fields c.loop-at.at)
 pub overflow_add-at : goal.overflow_add-at
 overflow_add-at c =
     let line : (text_of c.first_line-line.result.text ≡ shown (form_due c.loop-at.due (drop c.loop-at.at c.args.fields.now)) (drop c.loop-at.at c.args.fields.now) ++ line_feed) × ((c.first_line-line.result.fields ≡ count_of (form_due c.loop-at.due (drop c.loop-at.at c.args.fields.now))) × (c.first_line-line.result.loose ≡ allows (form_due c.loop-at.due (drop c.loop-at.at c.args.fields.now)) loose_letter)) =
-        let fs = c.args.fields.now in
-        let small : Small fs = λ i. omega (arith, c.type_inv.fields i) in
-        line-shown c.letter-letter.result (letter_of c.loop-at.due.stage c.loop-at.due.edition) (take (length fs - c.loop-at.at) (drop c.loop-at.at fs)) (drop c.loop-at.at fs) c.first_line-line.result
-        c.letter-letter.ensures (drop-whole fs c.loop-at.at) (small-drop fs c.loop-at.at small) (c.first_line-line.ensures.text_value, c.first_line-line.ensures.fields_value) in
+    let fs = c.args.fields.now in
+    let small : Small fs = λ i. omega (arith, c.type_inv.fields i) in
+    line-shown c.letter-letter.result (letter_of c.loop-at.due.stage c.loop-at.due.edition) (take (length fs - c.loop-at.at) (drop c.loop-at.at fs)) (drop c.loop-at.at fs) c.first_line-line.result
+    c.letter-letter.ensures (drop-whole fs c.loop-at.at) (small-drop fs c.loop-at.at small) (c.first_line-line.ensures.text_value, c.first_line-line.ensures.fields_value) in
     let l = c.loop-at in
     omega (arith, line.1.0, says-few (letter_of l.due.stage l.due.edition) (drop l.at c.args.fields.now))
 
 pub loop-at-smaller : goal.loop-at-smaller
 loop-at-smaller c =
     let line : (text_of c.first_line-line.result.text ≡ shown (form_due c.loop-at.due (drop c.loop-at.at c.args.fields.now)) (drop c.loop-at.at c.args.fields.now) ++ line_feed) × ((c.first_line-line.result.fields ≡ count_of (form_due c.loop-at.due (drop c.loop-at.at c.args.fields.now))) × (c.first_line-line.result.loose ≡ allows (form_due c.loop-at.due (drop c.loop-at.at c.args.fields.now)) loose_letter)) =
-        let fs = c.args.fields.now in
-        let small : Small fs = λ i. omega (arith, c.type_inv.fields i) in
-        line-shown c.letter-letter.result (letter_of c.loop-at.due.stage c.loop-at.due.edition) (take (length fs - c.loop-at.at) (drop c.loop-at.at fs)) (drop c.loop-at.at fs) c.first_line-line.result
-        c.letter-letter.ensures (drop-whole fs c.loop-at.at) (small-drop fs c.loop-at.at small) (c.first_line-line.ensures.text_value, c.first_line-line.ensures.fields_value) in
+    let fs = c.args.fields.now in
+    let small : Small fs = λ i. omega (arith, c.type_inv.fields i) in
+    line-shown c.letter-letter.result (letter_of c.loop-at.due.stage c.loop-at.due.edition) (take (length fs - c.loop-at.at) (drop c.loop-at.at fs)) (drop c.loop-at.at fs) c.first_line-line.result
+    c.letter-letter.ensures (drop-whole fs c.loop-at.at) (small-drop fs c.loop-at.at small) (c.first_line-line.ensures.text_value, c.first_line-line.ensures.fields_value) in
     let l = c.loop-at in
     omega (arith, line.1.0, says-one (letter_of l.due.stage l.due.edition) (drop l.at c.args.fields.now))
 
 pub loop-at-preserved : goal.loop-at-preserved
 loop-at-preserved c =
     let line : (text_of c.first_line-line.result.text ≡ shown (form_due c.loop-at.due (drop c.loop-at.at c.args.fields.now)) (drop c.loop-at.at c.args.fields.now) ++ line_feed) × ((c.first_line-line.result.fields ≡ count_of (form_due c.loop-at.due (drop c.loop-at.at c.args.fields.now))) × (c.first_line-line.result.loose ≡ allows (form_due c.loop-at.due (drop c.loop-at.at c.args.fields.now)) loose_letter)) =
-        let fs = c.args.fields.now in
-        let small : Small fs = λ i. omega (arith, c.type_inv.fields i) in
-        line-shown c.letter-letter.result (letter_of c.loop-at.due.stage c.loop-at.due.edition) (take (length fs - c.loop-at.at) (drop c.loop-at.at fs)) (drop c.loop-at.at fs) c.first_line-line.result
-        c.letter-letter.ensures (drop-whole fs c.loop-at.at) (small-drop fs c.loop-at.at small) (c.first_line-line.ensures.text_value, c.first_line-line.ensures.fields_value) in
+    let fs = c.args.fields.now in
+    let small : Small fs = λ i. omega (arith, c.type_inv.fields i) in
+    line-shown c.letter-letter.result (letter_of c.loop-at.due.stage c.loop-at.due.edition) (take (length fs - c.loop-at.at) (drop c.loop-at.at fs)) (drop c.loop-at.at fs) c.first_line-line.result
+    c.letter-letter.ensures (drop-whole fs c.loop-at.at) (small-drop fs c.loop-at.at small) (c.first_line-line.ensures.text_value, c.first_line-line.ensures.fields_value) in
     let l = c.loop-at in
     laid_more c.args.fields.now (length c.args.room.now) l.room l.due l.n l.at l.invariant (omega arith) (text_of c.first_line-line.result.text) line.0
     c.put-put.new.room c.in-Wrote.more

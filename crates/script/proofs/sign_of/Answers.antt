@@ -1,8 +1,5 @@
 use native.Mathlib.Omega.{arith}
 use Rattle.script.proofs.ByteLaws.{both48, sign-number, sign-blank, sign-fixed, sign-letter, sign-nothing}
-use borrow.Author.Rules.{rules}
-use Rattle.script.proofs.sign_of.Reads as reads
-use Rattle.script.proofs.sign_of.Lts as lts
 use Rattle.script.proofs.sign_of.Goals as goal
 
 pub returns-then-b-eq35 : goal.returns-then-b-eq35

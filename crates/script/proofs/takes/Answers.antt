@@ -1,12 +1,4 @@
-use native.Mathlib.Omega.{arith}
-use mathlib.Core.Path.{◌≡◌, refl, sym, ap, ap₂, ◌∙◌}
-use Prim.Native.Nat.{ℕ, ◌+◌, ◌-◌, ◌≤◌, ◌<◌}
-use lib.ListN.{length, get_or, take, drop}
 use Rattle.script.proofs.ByteLaws.{takes-as}
-use borrow.Author.Rules.{rules}
-use Rattle.script.proofs.takes.Reads as reads
-use Rattle.script.proofs.takes.Lts as lts
-use Rattle.script.proofs.sign_of.Reads as sign-of-reads
 use Rattle.script.proofs.takes.Goals as goal
 
 pub returns-in-Fixed : goal.returns-in-Fixed

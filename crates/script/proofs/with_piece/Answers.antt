@@ -1,16 +1,7 @@
-use native.Mathlib.Omega.{arith}
-use mathlib.Core.Path.{◌≡◌, refl, sym, ap, ap₂, ◌∙◌}
-use Prim.Native.Nat.{ℕ, ◌+◌, ◌-◌, ◌≤◌, ◌<◌}
-use lib.ListN.{length, get_or, take, drop}
+use mathlib.Core.Path.{sym, ap, ◌∙◌}
 use Rattle.listing.specs.Texts.{text_of, with_all}
 use Rattle.script.proofs.ByteLaws.{piece-as}
 use Rattle.listing.proofs.TextLaws.{all_none, all_one}
-use borrow.Author.Rules.{rules}
-use Rattle.script.proofs.with_piece.Reads as reads
-use Rattle.script.proofs.with_piece.Lts as lts
-use Rattle.listing.proofs.Text.byte.Reads as byte-Reads
-use Rattle.listing.proofs.Text.number.Reads as number-reads
-use Rattle.script.proofs.sign_of.Reads as sign-of-reads
 use Rattle.script.proofs.with_piece.Goals as goal
 
 pub returns-in-Fixed : goal.returns-in-Fixed

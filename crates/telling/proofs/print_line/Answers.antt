@@ -8,7 +8,6 @@ use Rattle.listing.specs.declared.Put.TheVariants.{Wrote}
 use lib.ListN.{length}
 use lib.Seq.{length-take-le}
 use Rattle.listing.proofs.TextLaws.{put-fits, put-kept}
-use borrow.Author.Rules.{rules}
 use Rattle.telling.proofs.print_line.Goals as goal
 
 -- what was written is in the room

@@ -1,6 +1,4 @@
 use native.Mathlib.Omega.{arith}
-use Prim.Native.Nat.{◌-◌, ◌≤◌}
-use borrow.Author.Rules.{rules}
 use Rattle.telling.proofs.print_lines.Goals as goal
 
 pub loop-k-init : goal.loop-k-init

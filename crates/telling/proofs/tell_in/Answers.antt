@@ -2,8 +2,7 @@ use mathlib.Core.Path.{sym, ◌∙◌}
 use native.Mathlib.Omega.{arith}
 use lib.ListN.{length}
 use lib.Seq.{length-take-le}
-use borrow.Author.Rules.{rules}
-use Rattle.telling.proofs.TellLaws.{Fit, read_fits, read-not, read-understood}
+use Rattle.telling.proofs.TellLaws.{read_fits, read-not, read-understood}
 use Rattle.telling.proofs.tell_in.Goals as goal
 
 pub slice_bounds-print_lines-end : goal.slice_bounds-print_lines-end

@@ -3,7 +3,6 @@ use Rattle.number.specs.declared.Edition.{Edition}
 use Rattle.listing.specs.Texts.{text_of, with_all}
 use Rattle.listing.specs.Lines.{record_words}
 use Rattle.listing.proofs.TextLaws.{all_none, then}
-use borrow.Author.Rules.{rules}
 use Rattle.listing.proofs.Text.beside.Goals as goal
 
 pub returns-in-First : goal.returns-in-First

@@ -1,6 +1,5 @@
 use mathlib.Core.Path.{sym, ◌∙◌}
 use Rattle.listing.proofs.TextLaws.{all_one}
-use borrow.Author.Rules.{rules}
 use Rattle.listing.proofs.Text.blank.Goals as goal
 
 pub returns : goal.returns

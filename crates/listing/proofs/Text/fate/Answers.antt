@@ -2,7 +2,6 @@ use mathlib.Core.Path.{◌∙◌, ap, sym}
 use Rattle.ties.specs.declared.Fate.{Fate}
 use Rattle.listing.specs.Texts.{text_of, with_all}
 use Rattle.listing.specs.Lines.{fate_word}
-use borrow.Author.Rules.{rules}
 use Rattle.listing.proofs.Text.fate.Goals as goal
 
 pub returns-in-Aborted : goal.returns-in-Aborted

@@ -2,7 +2,6 @@ use mathlib.Core.Path.{◌∙◌, ap, sym}
 use Rattle.terms.specs.declared.Mark.{Mark}
 use Rattle.listing.specs.Texts.{text_of, with_all}
 use Rattle.listing.specs.Lines.{mark_word}
-use borrow.Author.Rules.{rules}
 use Rattle.listing.proofs.Text.mark.Goals as goal
 
 pub returns-in-Read : goal.returns-in-Read

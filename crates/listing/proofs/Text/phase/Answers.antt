@@ -2,7 +2,6 @@ use mathlib.Core.Path.{◌∙◌, ap, sym}
 use Rattle.rules.specs.declared.Phase.{Phase}
 use Rattle.listing.specs.Texts.{text_of, with_all}
 use Rattle.listing.specs.Lines.{phase_word}
-use borrow.Author.Rules.{rules}
 use Rattle.listing.proofs.Text.phase.Goals as goal
 
 pub returns-in-Idle : goal.returns-in-Idle

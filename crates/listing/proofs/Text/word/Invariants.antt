@@ -1,12 +1,7 @@
-use borrow.Author.Rules.{rules}
-use native.Mathlib.Omega.{arith}
-use Prim.Native.Nat.{◌≤◌, ◌-◌, ℕ}
-use mathlib.Core.Path.{◌≡◌, sym, ap, ◌∙◌}
-use mathlib.Core.List.{List}
-use lib.ListN.{length, take, get_or}
-use lib.Seq.{take_all}
-use Rattle.listing.specs.Texts.{text_of, with_byte, with_all}
-use Rattle.listing.proofs.TextLaws.{all_none, all_more}
+use Prim.Native.Nat.{◌≤◌, ◌-◌}
+use mathlib.Core.Path.{◌≡◌}
+use lib.ListN.{length, take}
+use Rattle.listing.specs.Texts.{text_of, with_all}
 use Rattle.listing.proofs.Text.word.Given as goal
 
 abbrev pub invariant-loop-i : goal.invariant-loop-i

@@ -1,7 +1,6 @@
 use mathlib.Core.Path.{sym, ap}
 use Rattle.plan.specs.declared.Word.{Word}
 use Rattle.plan.specs.Passes.{with_line}
-use borrow.Author.Rules.{rules}
 use Rattle.plan.proofs.Counts.with_line.Goals as goal
 
 pub returns-in-Move : goal.returns-in-Move

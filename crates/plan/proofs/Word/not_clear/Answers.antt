@@ -1,7 +1,6 @@
 use mathlib.Core.Path.{sym, ap}
 use Rattle.plan.specs.declared.Word.{Word}
 use Rattle.plan.specs.Passes.{not_clear}
-use borrow.Author.Rules.{rules}
 use Rattle.plan.proofs.Word.not_clear.Goals as goal
 
 pub returns-in-Step : goal.returns-in-Step

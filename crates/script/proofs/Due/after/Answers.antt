@@ -1,11 +1,5 @@
 use Rattle.script.proofs.DueLaws.{after-loose, after-stage, edition-due}
-use mathlib.Core.Path.{◌≡◌, refl, sym, ap, ◌∙◌}
-use borrow.Author.Rules.{rules}
-use Rattle.script.proofs.Due.after.Reads as reads
-use Rattle.script.proofs.Due.after.Lts as lts
-use Rattle.number.proofs.Edition.named.Reads as named-reads
-use Rattle.script.proofs.Due.at.Reads as at_reads
-use Rattle.script.proofs.Due.counted.Reads as counted-reads
+use mathlib.Core.Path.{◌∙◌}
 use Rattle.script.proofs.Due.after.Goals as goal
 
 pub returns-then-loose : goal.returns-then-loose

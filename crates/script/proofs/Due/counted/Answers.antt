@@ -1,7 +1,5 @@
 use Rattle.script.proofs.DueLaws.{counted_none, counted-some}
-use native.Mathlib.Omega.{arith}
-use mathlib.Core.Path.{◌≡◌, refl, sym, ap, ◌∙◌}
-use borrow.Author.Rules.{rules}
+use mathlib.Core.Path.{◌∙◌}
 use Rattle.script.proofs.Due.counted.Goals as goal
 
 pub returns-then-lines-eq0 : goal.returns-then-lines-eq0
