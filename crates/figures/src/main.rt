@@ -34,16 +34,15 @@ fn warn(err: &impl Print, name: &[u8], words: &str) {
 }
 
 // What is to be said of a book that was read.
-fn say_answer(
-    out: &impl Print,
-    err: &impl Print,
-    name: &[u8],
-    answer: Answer,
-) -> io::Result<()> {
+fn say_answer(out: &impl Print, err: &impl Print, name: &[u8], answer: Answer) -> io::Result<()> {
     match answer {
         Answer::Counted(verdict) => say_refused(out, name, verdict.number()),
         Answer::TooManyBooks => {
-            warn(err, name, "is refused by 23, and not counted: 1000 books are");
+            warn(
+                err,
+                name,
+                "is refused by 23, and not counted: 1000 books are",
+            );
             Ok(())
         }
     }
