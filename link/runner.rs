@@ -2,7 +2,7 @@
 //! the rules forbid; and when it comes up after a crash, it puts back every move that was broken off. Here it plays both, with a book in memory and a crash
 //! in the middle of an event.
 //!
-//! It starts as a C program does. Rust's own start looks up where the stack lies, which the emulator of another processor cannot tell.
+//! It starts as a C program does. Rust's own start looks up where the stack lies, which an emulator of x86-64 may not tell.
 #![no_main]
 
 use sagalib::{

@@ -1,6 +1,6 @@
 //! Calls libsagalib.a through the package sagalib. What differs from the rules is told, and the status is then 1.
 //!
-//! It starts as a C program does. Rust's own start looks up where the stack lies, which the emulator of another processor cannot tell.
+//! It starts as a C program does. Rust's own start looks up where the stack lies, which an emulator of x86-64 may not tell.
 #![no_main]
 
 use sagalib::{
