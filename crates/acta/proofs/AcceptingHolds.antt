@@ -22,8 +22,8 @@ use Rattle.tables.specs.declared.Sort.TheVariants.{Plain, Saga, Step, Undo, Unkn
 use Rattle.tables.specs.declared.Tables.{Tables}
 use Rattle.rules.specs.Rules.{abort_barred, begin_barred, commit_barred}
 use Rattle.rules.specs.States.{has_ended, is_active, is_child, is_idle, parent_of, phase_of}
-use Rattle.rules.specs.declared.Parent.{Parent}
-use Rattle.rules.specs.declared.Parent.TheVariants.{Nobody, Under}
+use Rattle.rules.specs.States.{Parent}
+use Rattle.std.specs.Prelude.{None, Some}
 use Rattle.rules.specs.declared.Phase.{Phase}
 use Rattle.rules.specs.declared.Phase.TheVariants.{Aborted, Active, Committed, Idle}
 use Rattle.rules.specs.declared.State.{State}
@@ -43,7 +43,7 @@ use Rattle.acta.specs.Accepting.{AbortsWhen, Accepting, BeginsWhen, CommitsWhen,
 use Rattle.acta.specs.Completing.{Takes}
 use Rattle.acta.specs.Delegating.{works}
 use Rattle.acta.specs.Told.{IsTold}
-use Rattle.acta.specs.Words.{OnRing, began, committed, conflicts, ended, in_progress, invoked, kept, mark, object, parent, runs}
+use Rattle.acta.specs.Words.{OnRing, began, committed, conflicts, ended, in_progress, invoked, kept, parent, runs}
 use Rattle.acta.proofs.DependingHolds.{all-let, none-bars, twice}
 use Rattle.acta.proofs.RingsTold.{ended-free, going-low, ring-given, ring-handed, ring-made}
 use Rattle.acta.proofs.StuckNever.{begun-known, takes-behind}
@@ -113,10 +113,10 @@ module _ (tables : Tables) (well : Well tables) (es : List Event) where
   idle : (t : ℕ) → began h t ≡ false → is_idle (phase_of ts t) ≡ true
   idle t b = told.idle t ∙ not_on (began h t) b
 
-  children : (t : ℕ) → ChildrenDone s t → (c : ℕ) → parent h c ≡ Under t → in_progress h c ≡ false
+  children : (t : ℕ) → ChildrenDone s t → (c : ℕ) → parent h c ≡ Some t → in_progress h c ≡ false
   children t d c p = sym (told.active c) ∙ d c (told.parents c ∙ p)
 
-  done : (t : ℕ) → ((c : ℕ) → parent h c ≡ Under t → in_progress h c ≡ false) → ChildrenDone s t
+  done : (t : ℕ) → ((c : ℕ) → parent h c ≡ Some t → in_progress h c ≡ false) → ChildrenDone s t
   done t k c p = told.active c ∙ k c (sym (told.parents c) ∙ p)
 
   -- a clean write, both ways
@@ -172,7 +172,7 @@ module _ (tables : Tables) (well : Well tables) (es : List Event) where
       (λ x. record { parent_plain = x.parent; child_plain = x.child; fresh = fresh c x.idle; going = going m x.active; declared = none-bars tables es h told true c x.declared })
       (λ w. record { parent = w.parent_plain; child = w.child_plain; idle = idle c w.fresh; active = active m w.going; declared = all-let tables es h told true c w.declared })
 
-  commit : (t : ℕ) → parent h t ≡ Nobody → Takes tables h (Commit t) ↔ CommitsWhen tables h t
+  commit : (t : ℕ) → parent h t ≡ None → Takes tables h (Commit t) ↔ CommitsWhen tables h t
   commit t p =
       through (Commit t) ((accepted-when tables es).commit t (told.parents t ∙ p))
       (λ m. record {
@@ -194,7 +194,7 @@ module _ (tables : Tables) (well : Well tables) (es : List Event) where
         off_rings = off t w.off_rings;
       })
 
-  hand : (t m : ℕ) → parent h t ≡ Under m → Takes tables h (Commit t) ↔ HandsWhen tables h t m
+  hand : (t m : ℕ) → parent h t ≡ Some m → Takes tables h (Commit t) ↔ HandsWhen tables h t m
   hand t m p =
       through (Commit t) ((accepted-when tables es).hand t m (told.parents t ∙ p))
       (λ x.
@@ -337,9 +337,9 @@ module _ (tables : Tables) (well : Well tables) (es : List Event) where
       clerk : clerk_of tables ts t ≡ parent_of ts t
       clerk = clerk-is tables s (kin tables es) t
 
-      nobodys : (p : Parent) → is_child p ≡ false → p ≡ Nobody
-      nobodys Nobody i = refl
-      nobodys (Under m) i = clash refl i
+      nobodys : (p : Parent) → is_child p ≡ false → p ≡ None
+      nobodys None i = refl
+      nobodys (Some m) i = clash refl i
 
   pub accepting : Accepting tables h
   accepting =

@@ -2,11 +2,11 @@
 use Prim.Native.Nat.{ℕ, ◌+◌, ◌<◌}
 use native.Mathlib.Omega.{arith}
 use mathlib.Core.Path.{◌≡◌, refl, sym, ap, subst, subst⁻¹, ◌∙◌}
-use mathlib.Core.Bool.{Bool, true, false, not, ◌&&◌, ◌||◌}
-use mathlib.Core.Logic.{◌↔◌, ⊎_elim}
+use mathlib.Core.Bool.{Bool, true, false, ◌||◌}
+use mathlib.Core.Logic.{⊎_elim}
 use mathlib.Core.List.{List, [], ◌∷◌, ◌++◌, append_assoc, append-nil}
 use lib.Dec.{eqb}
-use Rattle.laws.proofs.Bools.{bool_cases, clash}
+use Rattle.laws.proofs.Bools.{clash}
 use Rattle.laws.proofs.Decisions.{lt-or}
 use Rattle.terms.specs.declared.Event.{Event}
 use Rattle.terms.specs.declared.Event.TheVariants.{Delegate, Operation as Invoke}
@@ -15,12 +15,12 @@ use Rattle.ties.specs.Operations.{is_aborted as is_aborted_op}
 use Rattle.tables.specs.Accepted.{Well}
 use Rattle.tables.specs.declared.Tables.{Tables}
 use Rattle.histories.specs.Histories.{Account, Deed, account_of, history, no_account, told}
-use Rattle.acta.specs.Accepting.{DelegatesWhen, InvokesWhen, RingsUndo, Unlocked}
+use Rattle.acta.specs.Accepting.{DelegatesWhen, InvokesWhen, Unlocked}
 use Rattle.acta.specs.Delegating.{AsIf, given_at_once}
-use Rattle.acta.specs.Words.{Happens, OnRing, Precedes, Tied, aborted, aborts, began, begins, committed, commits, conflicts, dropped, ended, in_progress, invoked, occurs}
+use Rattle.acta.specs.Words.{Happens, OnRing, Precedes, Tied, aborted, aborts, began, begins, committed, commits, conflicts, dropped, in_progress, invoked, occurs}
 use Rattle.acta.proofs.AcceptingHolds.{accepting}
 use Rattle.acta.proofs.ByTheLetterHolds.{follows-more}
-use Rattle.acta.proofs.Deeds.{account-append, made-on}
+use Rattle.acta.proofs.Deeds.{account-append}
 use Rattle.acta.proofs.FrameHolds.{tied_on}
 use Rattle.acta.proofs.Invoking.{one_more}
 use Rattle.acta.proofs.Losses.{tied-there}

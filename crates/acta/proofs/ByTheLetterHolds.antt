@@ -18,7 +18,7 @@ use Rattle.tables.specs.Sorts.{first_of, steps_of}
 use Rattle.tables.specs.declared.Kind.TheVariants.{Abort, Commit as CommitKind, WeakAbort}
 use Rattle.tables.specs.declared.Tables.{Tables}
 use Rattle.tables.proofs.SagaLaws.{well-steps}
-use Rattle.rules.specs.declared.Parent.TheVariants.{Under}
+use Rattle.std.specs.Prelude.{Some}
 use Rattle.closing.proofs.Acts.{mine-on}
 use Rattle.rules.specs.States.{is_aborted, is_committed, own, phase_of}
 use Rattle.rules.specs.declared.Phase.{Phase}
@@ -225,13 +225,13 @@ module _ (tables : Tables) (well : Well tables) (es : List Event) (complete : Co
   -- ---- children
 
   -- where a child commits, its parent is in progress, and is its parent there already
-  commits-under : (x : List Event) (m c : ℕ) → parent h c ≡ Under m → Happens h x (Commit c) → (parent x c ≡ Under m) × (in_progress x m ≡ true)
+  commits-under : (x : List Event) (m c : ℕ) → parent h c ≡ Some m → Happens h x (Commit c) → (parent x c ≡ Some m) × (in_progress x m ≡ true)
   commits-under x m c p at =
       let b = (on_and (began x c) (not (ended x c)) ((fundamental tables well es).in_between x (Commit c) at c (eq-eqb c c refl))).0 in
       let q = sym (same-parent h x (Commit c ∷ at.0) at.1 (fundamental tables well es).one_begin c b) ∙ p in
       (q, (nesting tables well es).parent_lasts x c m at q)
 
-  child-weak : (u : List Event) (m c : ℕ) → parent h c ≡ Under m → Happens h u (Aborts m) → committed u c ≡ false → aborted h c ≡ true
+  child-weak : (u : List Event) (m c : ℕ) → parent h c ≡ Some m → Happens h u (Aborts m) → committed u c ≡ false → aborted h c ≡ true
   child-weak u m c p at idle =
       or-aborted c (begun tables well es h (is_history tables es).again c m p)
       (λ k.
@@ -239,17 +239,17 @@ module _ (tables : Tables) (well : Well tables) (es : List Event) (complete : Co
       let going = (on_and (began w.0 m) (not (ended w.0 m)) (commits-under w.0 m c p w.1).1).1 in
       clash w.2 (off-or (committed w.0 m) (aborted w.0 m) (on-not (ended w.0 m) going)).1)
 
-  child-before : (u : List Event) (m c : ℕ) → parent h c ≡ Under m → Happens h u (Commit m) → committed h c ≡ true → committed u c ≡ true
+  child-before : (u : List Event) (m c : ℕ) → parent h c ≡ Some m → Happens h u (Commit m) → committed h c ≡ true → committed u c ≡ true
   unfolding occurs
   child-before u m c p at k =
       let w = occurs-where (commits c) h k in
       by w.0 (subst (Happens h w.0) (commit-of c w.1 w.4) (w.2, w.3))
     where
       -- nobody is its own child
-      apart : (x : List Event) → Happens h x (Commit c) → parent x c ≡ Under m → c ≡ m → ⊥
+      apart : (x : List Event) → Happens h x (Commit c) → parent x c ≡ Some m → c ≡ m → ⊥
       apart x there q e =
           clash ((fundamental tables well es).in_between x (Commit c) there c (eq-eqb c c refl))
-          ((nesting tables well es).children_first x c there c (subst⁻¹ (λ (z : ℕ). parent x c ≡ Under z) e q))
+          ((nesting tables well es).children_first x c there c (subst⁻¹ (λ (z : ℕ). parent x c ≡ Some z) e q))
 
       same : (a b : ℕ) → Commit a ≡ Commit b → a ≡ b
       same a b e = eqb-true a b (ap (commits b) e ∙ eq-eqb b b refl)
@@ -262,13 +262,13 @@ module _ (tables : Tables) (well : Well tables) (es : List Event) (complete : Co
           (λ (z, e, d). second x there under z e d)
           (cuts x (Commit c ∷ there.0) u (Commit m ∷ at.0) (sym there.1 ∙ at.1))
         where
-          first : (x : List Event) (there : Happens h x (Commit c)) → (parent x c ≡ Under m) × (in_progress x m ≡ true) → (z : List Event) → u ≡ x ++ z → Commit c ∷ there.0 ≡ z ++ (Commit m ∷ at.0) → committed u c ≡ true
+          first : (x : List Event) (there : Happens h x (Commit c)) → (parent x c ≡ Some m) × (in_progress x m ≡ true) → (z : List Event) → u ≡ x ++ z → Commit c ∷ there.0 ≡ z ++ (Commit m ∷ at.0) → committed u c ≡ true
           first x there under [] e d = absurd (apart x there under.0 (same c m (heads (Commit c) (Commit m) there.0 at.0 d).0))
           first x there under (y ∷ z) e d =
               ap (λ (l : List Event). committed l c) e ∙ occurs-append (commits c) x (y ∷ z)
               ∙ or_right (committed x c) (committed (y ∷ z) c) (or_left (commits c y) (committed z c) (ap (commits c) (sym (heads (Commit c) y there.0 (z ++ (Commit m ∷ at.0)) d).0) ∙ eq-eqb c c refl))
 
-          second : (x : List Event) (there : Happens h x (Commit c)) → (parent x c ≡ Under m) × (in_progress x m ≡ true) → (z : List Event) → x ≡ u ++ z → Commit m ∷ at.0 ≡ z ++ (Commit c ∷ there.0) → committed u c ≡ true
+          second : (x : List Event) (there : Happens h x (Commit c)) → (parent x c ≡ Some m) × (in_progress x m ≡ true) → (z : List Event) → x ≡ u ++ z → Commit m ∷ at.0 ≡ z ++ (Commit c ∷ there.0) → committed u c ≡ true
           second x there under [] e d = absurd (apart x there under.0 (same c m (sym (heads (Commit m) (Commit c) at.0 there.0 d).0)))
           second x there under (y ∷ z) e d =
               clash

@@ -13,8 +13,8 @@ use Rattle.terms.specs.declared.Mark.{Mark}
 use Rattle.ties.specs.Operations.{is_active}
 use Rattle.ties.specs.declared.Fate.{Fate}
 use Rattle.ties.specs.declared.Fate.TheVariants.{Aborted as FateAborted, Committed as FateCommitted}
-use Rattle.rules.specs.declared.Parent.{Parent}
-use Rattle.rules.specs.declared.Parent.TheVariants.{Nobody, Under}
+use Rattle.rules.specs.States.{Parent}
+use Rattle.std.specs.Prelude.{None, Some}
 use Rattle.rules.specs.declared.Phase.TheVariants.{Committed}
 use Rattle.histories.specs.Histories.{Account, Deed, account_of, kept, moved, no_account, of_the, only, recounted, retell, to_fate, to_receiver, told}
 use Rattle.acta.specs.Words.{Happens, begins, invoked, occurs}
@@ -37,12 +37,12 @@ told_more u e = account-append u (e ∷ []) no_account
 
 module _ (t : ℕ) (a : Account) where
   kept-made : (p : Parent) → (kept t p a).made ≡ a.made
-  kept-made Nobody = refl
-  kept-made (Under m) = refl
+  kept-made None = refl
+  kept-made (Some m) = refl
 
   kept-parent : (p : Parent) (c : ℕ) → (kept t p a).parent c ≡ a.parent c
-  kept-parent Nobody c = refl
-  kept-parent (Under m) c = refl
+  kept-parent None c = refl
+  kept-parent (Some m) c = refl
 
 pub made_up : (e : Event) (a : Account) → a.made ≤ (recounted e a).made
 made_up (Begin t) a = omega arith
@@ -89,8 +89,8 @@ module _ {A : Type 0} (f : Deed → A) (given : (r : ℕ) (d : Deed) → f (to_r
       (λ x. rw x)
 
   kept_same : (t : ℕ) (p : Parent) (a : Account) → f ((kept t p a).deed q) ≡ f (a.deed q)
-  kept_same t Nobody a = retold (of_the t) (to_fate FateCommitted) a (ends FateCommitted)
-  kept_same t (Under m) a = retold (of_the t) (to_receiver m) a (given m)
+  kept_same t None a = retold (of_the t) (to_fate FateCommitted) a (ends FateCommitted)
+  kept_same t (Some m) a = retold (of_the t) (to_receiver m) a (given m)
 
   same : (e : Event) (a : Account) → q < a.made → f ((recounted e a).deed q) ≡ f (a.deed q)
   same (Begin t) a l = refl

@@ -16,8 +16,8 @@ use Rattle.tables.specs.Accepted.{Well}
 use Rattle.tables.specs.Sorts.{is_plain, sort_of}
 use Rattle.tables.specs.declared.Tables.{Tables}
 use Rattle.rules.specs.States.{is_active, phase_of}
-use Rattle.rules.specs.declared.Parent.{Parent}
-use Rattle.rules.specs.declared.Parent.TheVariants.{Nobody, Under}
+use Rattle.rules.specs.States.{Parent}
+use Rattle.std.specs.Prelude.{None, Some}
 use Rattle.rules.specs.declared.Phase.TheVariants.{Aborted, Committed}
 use Rattle.histories.specs.Histories.{Account, Deed, history, kept as kept_by, moved, of_the, only, reached, retell, to_fate, to_receiver, told}
 use Rattle.histories.specs.Promises.{MayEndOne}
@@ -54,7 +54,7 @@ whose_of d = d.whose
 -- ---- one event more
 
 module _ (u : List Event) (t q : ℕ) where
-  pub commit-fate : parent u t ≡ Nobody → fate (u ++ (Commit t ∷ [])) q ≡ cond (works u t q) FateCommitted (fate u q)
+  pub commit-fate : parent u t ≡ None → fate (u ++ (Commit t ∷ [])) q ≡ cond (works u t q) FateCommitted (fate u q)
   commit-fate n =
       ap (λ (a : Account). (a.deed q).fate) (told_more u (Commit t))
       ∙ ap (λ (p : Parent). ((kept_by t p (moved Committed t (told u))).deed q).fate) n
@@ -63,7 +63,7 @@ module _ (u : List Event) (t q : ℕ) where
   pub abort-fate : fate (u ++ (Abort t ∷ [])) q ≡ cond (works u t q) FateAborted (fate u q)
   abort-fate = ap (λ (a : Account). (a.deed q).fate) (told_more u (Abort t)) ∙ retold (of_the t) (to_fate FateAborted) (moved Aborted t (told u)) q fate_of
 
-  pub hand-over : (m : ℕ) → parent u t ≡ Under m → (responsible (u ++ (Commit t ∷ [])) q ≡ cond (works u t q) m (responsible u q)) × (fate (u ++ (Commit t ∷ [])) q ≡ fate u q)
+  pub hand-over : (m : ℕ) → parent u t ≡ Some m → (responsible (u ++ (Commit t ∷ [])) q ≡ cond (works u t q) m (responsible u q)) × (fate (u ++ (Commit t ∷ [])) q ≡ fate u q)
   hand-over m n =
       let to = told_more u (Commit t) ∙ ap (λ (p : Parent). kept_by t p (moved Committed t (told u))) n in (
         ap (λ (a : Account). (a.deed q).whose) to ∙ retold (of_the t) (to_receiver m) (moved Committed t (told u)) q whose_of,

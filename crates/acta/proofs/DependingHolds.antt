@@ -19,8 +19,8 @@ use Rattle.tables.specs.declared.Kind.TheVariants.{Abort, Begin, BeginOnAbort, B
 use Rattle.tables.specs.declared.Tables.{Tables}
 use Rattle.rules.specs.Rules.{barred_by, begin_bars, commit_bars, declared_bars, kind_bars}
 use Rattle.rules.specs.States.{parent_of, phase_of}
-use Rattle.rules.specs.declared.Parent.{Parent}
-use Rattle.rules.specs.declared.Parent.TheVariants.{Nobody, Under}
+use Rattle.rules.specs.States.{Parent}
+use Rattle.std.specs.Prelude.{None, Some}
 use Rattle.judge.specs.Judge.{judged}
 use Rattle.histories.specs.Histories.{history, reached}
 use Rattle.histories.proofs.AcceptedWhenHolds.{accepted-when}
@@ -89,8 +89,8 @@ module _ (tables : Tables) (well : Well tables) where
   commit-let u d v = by-parent (parent_of (reached tables u).transactions d) refl
     where
       by-parent : (p : Parent) → parent_of (reached tables u).transactions d ≡ p → declared_bars false tables (reached tables u).transactions d ≡ false
-      by-parent Nobody e = (((accepted-when tables u).commit d e).0 v).declared
-      by-parent (Under m) e = (((accepted-when tables u).hand d m e).0 v).could.declared
+      by-parent None e = (((accepted-when tables u).commit d e).0 v).declared
+      by-parent (Some m) e = (((accepted-when tables u).hand d m e).0 v).could.declared
 
   begin-let : (u : List Event) (e : Event) (d : ℕ) → begins d e ≡ true → (judged tables (reached tables u) e).verdict ≡ Accepted → declared_bars true tables (reached tables u).transactions d ≡ false
   begin-let u (Begins x) d h v = subst (λ (t : ℕ). declared_bars true tables (reached tables u).transactions t ≡ false) (eqb-true x d h) (((accepted-when tables u).begin x).0 v).declared

@@ -1,19 +1,19 @@
 -- What an event leaves as it was.
 use Prim.Native.Nat.{ℕ, ◌<◌}
-use mathlib.Core.Path.{◌≡◌, refl, sym, ap, subst, subst⁻¹, ◌∙◌}
-use mathlib.Core.Bool.{true, false, ◌||◌}
-use mathlib.Core.Logic.{◌↔◌, ◌⊎◌, inl, inr}
+use mathlib.Core.Path.{◌≡◌, refl, sym, ap, subst, ◌∙◌}
+use mathlib.Core.Bool.{true, false}
+use mathlib.Core.Logic.{◌⊎◌, inl, inr}
 use mathlib.Core.List.{List, [], ◌∷◌, ◌++◌, append_assoc}
 use lib.Dec.{eqb}
 use borrow.Author.Tests.{eq-eqb}
 use Rattle.laws.proofs.Bools.{or_left, or_off}
 use Rattle.terms.specs.declared.Event.{Event}
-use Rattle.terms.specs.declared.Event.TheVariants.{AbortOne, CommitOne, Delegate, Operation as Invoke}
+use Rattle.terms.specs.declared.Event.TheVariants.{Operation as Invoke}
 use Rattle.tables.specs.Accepted.{Well}
 use Rattle.tables.specs.declared.Tables.{Tables}
 use Rattle.histories.specs.Histories.{Account, Deed, history, no_account, told}
 use Rattle.acta.specs.Frame.{LeavesOthers}
-use Rattle.acta.specs.Words.{Happens, Tied, acts, begins, fate, invoked, occurs, parent, responsible, runs}
+use Rattle.acta.specs.Words.{Happens, Tied, acts, begins, fate, invoked, occurs, responsible, runs}
 use Rattle.acta.proofs.Deeds.{account-append, nobodys-child}
 use Rattle.acta.proofs.DelegatingHolds.{delegation}
 use Rattle.acta.proofs.Losses.{same-mark, same_object, tied-there}

@@ -1,8 +1,8 @@
 -- What waits for itself never happens: each wait is read off a statement of its own, and followed through the list.
 use Prim.Native.Nat.{ℕ}
-use mathlib.Core.Path.{◌≡◌, refl, sym, ap, subst, subst⁻¹, ◌∙◌}
+use mathlib.Core.Path.{◌≡◌, refl, sym, ap, subst, ◌∙◌}
 use mathlib.Core.Bool.{true, false, not}
-use mathlib.Core.List.{List, [], ◌∷◌, ◌++◌, append_assoc}
+use mathlib.Core.List.{List, ◌∷◌, ◌++◌, append_assoc}
 use borrow.Author.Tests.{eqb-true}
 use Rattle.laws.proofs.Bools.{clash, is-not, off-or, on_and, on-not, or_left}
 use Rattle.terms.specs.declared.Event.{Event}

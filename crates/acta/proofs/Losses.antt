@@ -1,18 +1,18 @@
 -- How an operation came to be kept; and ties, marks and parents in a beginning of the history.
 use Prim.Native.Nat.{ℕ, ◌≤◌, ◌<◌}
 use native.Mathlib.Omega.{arith}
-use mathlib.Core.Path.{◌≡◌, refl, sym, ap, subst, subst⁻¹, ◌∙◌}
+use mathlib.Core.Path.{◌≡◌, refl, sym, ap, subst, ◌∙◌}
 use mathlib.Core.Bool.{true, false}
 use mathlib.Core.Logic.{⊎_elim}
-use mathlib.Core.List.{List, [], ◌∷◌, ◌++◌, append_assoc, append-nil}
-use Rattle.laws.proofs.Bools.{clash, is-not, on_and, or_left}
+use mathlib.Core.List.{List, [], ◌∷◌, ◌++◌, append-nil}
+use Rattle.laws.proofs.Bools.{clash, is-not, or_left}
 use Rattle.laws.proofs.Decisions.{lt-or}
 use Rattle.terms.specs.declared.Event.{Event}
 use Rattle.terms.specs.declared.Event.TheVariants.{Commit, CommitOne, Operation as Invoke}
 use Rattle.ties.specs.Operations.{is_active as is_active_op, is_committed as is_committed_op}
 use Rattle.ties.specs.declared.Fate.{Fate}
 use Rattle.ties.specs.declared.Fate.TheVariants.{Aborted, Active, Committed}
-use Rattle.rules.specs.declared.Parent.TheVariants.{Nobody}
+use Rattle.std.specs.Prelude.{None}
 use Rattle.histories.specs.Histories.{Account, Deed, no_account, told}
 use Rattle.acta.specs.Words.{Happens, Tied, began, begins, invoked, kept, mark, object, occurs, parent, responsible, runs}
 use Rattle.acta.proofs.Deeds.{account-append, made-on, nobodys-child, nothing-told, same-on}
@@ -26,7 +26,7 @@ still Aborted r k = clash r refl
 
 -- q was kept with the one responsible for it, who was nobody's child; or alone
 pub data KeptBy (h : List Event) (q : ℕ) : Type 0 where
-  with_it : (u : List Event) → Happens h u (Commit (responsible u q)) → parent u (responsible u q) ≡ Nobody → q < invoked u → runs u q ≡ true → KeptBy h q
+  with_it : (u : List Event) → Happens h u (Commit (responsible u q)) → parent u (responsible u q) ≡ None → q < invoked u → runs u q ≡ true → KeptBy h q
   by_itself : (u : List Event) (t : ℕ) → Happens h u (CommitOne t q) → KeptBy h q
 
 module _ (h : List Event) (q : ℕ) where

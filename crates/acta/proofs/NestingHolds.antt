@@ -11,8 +11,8 @@ use Rattle.ties.specs.Operations.{is_committed as is_committed_op}
 use Rattle.tables.specs.Accepted.{Well}
 use Rattle.tables.specs.declared.Tables.{Tables}
 use Rattle.rules.specs.States.{parent_of, phase_of}
-use Rattle.rules.specs.declared.Parent.{Parent}
-use Rattle.rules.specs.declared.Parent.TheVariants.{Nobody, Under}
+use Rattle.rules.specs.States.{Parent}
+use Rattle.std.specs.Prelude.{None, Some}
 use Rattle.rules.proofs.PhaseLaws.{idle-is}
 use Rattle.histories.specs.Histories.{history, no_account, reached, told}
 use Rattle.histories.proofs.FamiliesHold.{families}
@@ -32,13 +32,13 @@ module _ (tables : Tables) (well : Well tables) (es : List Event) where
   h = history tables es
 
   -- a child has begun
-  pub begun : (u : List Event) → history tables u ≡ u → (c m : ℕ) → parent u c ≡ Under m → began u c ≡ true
+  pub begun : (u : List Event) → history tables u ≡ u → (c m : ℕ) → parent u c ≡ Some m → began u c ≡ true
   begun u all c m p =
       let told = subst (IsTold tables u) all (is_told tables u well) in
       bool_cases (began u c) (λ b. b)
       (λ b. absurd (omega (arith, ((kin tables u).begun c m (told.parents c ∙ p)).0, idle-is (phase_of (reached tables u).transactions c) (told.idle c ∙ rw b))))
 
-  one_parent : (u v : List Event) → h ≡ u ++ v → (c m : ℕ) → parent u c ≡ Under m → parent h c ≡ Under m
+  one_parent : (u v : List Event) → h ≡ u ++ v → (c m : ℕ) → parent u c ≡ Some m → parent h c ≡ Some m
   one_parent u v q c m p =
       ap (λ (l : List Event). parent l c) q
       ∙ ap (λ a. a.parent c) (account-append u v no_account)
@@ -53,12 +53,12 @@ module _ (tables : Tables) (well : Well tables) (es : List Event) where
 
   -- ---- read off the preconditions
 
-  children_first : (u : List Event) (t : ℕ) → Happens h u (Commit t) → (c : ℕ) → parent u c ≡ Under t → in_progress u c ≡ false
+  children_first : (u : List Event) (t : ℕ) → Happens h u (Commit t) → (c : ℕ) → parent u c ≡ Some t → in_progress u c ≡ false
   children_first u t at = by (parent u t) refl
     where
-      by : (p : Parent) → parent u t ≡ p → (c : ℕ) → parent u c ≡ Under t → in_progress u c ≡ false
-      by Nobody e = (((by-preconditions tables well es u (Commit t) at).commit t e).0 (taken-there tables well es u (Commit t) at)).children
-      by (Under m) e = (((by-preconditions tables well es u (Commit t) at).hand t m e).0 (taken-there tables well es u (Commit t) at)).children
+      by : (p : Parent) → parent u t ≡ p → (c : ℕ) → parent u c ≡ Some t → in_progress u c ≡ false
+      by None e = (((by-preconditions tables well es u (Commit t) at).commit t e).0 (taken-there tables well es u (Commit t) at)).children
+      by (Some m) e = (((by-preconditions tables well es u (Commit t) at).hand t m e).0 (taken-there tables well es u (Commit t) at)).children
 
   pub nesting : Nesting h
   nesting =

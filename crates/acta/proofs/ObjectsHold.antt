@@ -18,7 +18,7 @@ use Rattle.ties.specs.declared.Fate.TheVariants.{Aborted, Active, Committed}
 use Rattle.ties.proofs.TieLaws.{tie-made, tie_parts}
 use Rattle.tables.specs.Accepted.{Well}
 use Rattle.tables.specs.declared.Tables.{Tables}
-use Rattle.rules.specs.declared.Parent.TheVariants.{Nobody}
+use Rattle.std.specs.Prelude.{None}
 use Rattle.histories.specs.Histories.{Account, history, no_account, reached, told}
 use Rattle.histories.specs.May.{MayCommit}
 use Rattle.histories.specs.Promises.{MayCommitOne}
@@ -30,7 +30,7 @@ use Rattle.replay.proofs.SerializabilityHolds.{serializability-holds}
 use Rattle.acta.specs.Delegating.{works}
 use Rattle.acta.specs.Objects.{ConflictSerializable, OffRings, Recoverable}
 use Rattle.acta.specs.Told.{IsTold}
-use Rattle.acta.specs.Words.{Happens, KeptConflict, Tied, dropped, fate, invoked, kept, mark, object, parent, responsible, runs}
+use Rattle.acta.specs.Words.{Happens, KeptConflict, Tied, dropped, fate, invoked, kept, mark, parent, responsible, runs}
 use Rattle.acta.proofs.Deeds.{account-append, made-on, made_up, told_more}
 use Rattle.acta.proofs.DelegatingHolds.{delegation}
 use Rattle.acta.proofs.EndingsHold.{endings}
@@ -49,7 +49,7 @@ module _ (tables : Tables) (well : Well tables) (es : List Event) where
 
   -- ---- whoever commits and is nobody's child
 
-  may-commit : (u : List Event) (t : ℕ) → Happens h u (Commit t) → parent u t ≡ Nobody → MayCommit tables (reached tables u) t
+  may-commit : (u : List Event) (t : ℕ) → Happens h u (Commit t) → parent u t ≡ None → MayCommit tables (reached tables u) t
   may-commit u t at n = ((accepted-when tables u).commit t ((told_at tables well es u (Commit t) at).parents t ∙ n)).0 (accepted-there tables es u (Commit t) at)
 
   may-keep : (u : List Event) (t q : ℕ) → Happens h u (CommitOne t q) → MayCommitOne tables (reached tables u) t q
@@ -72,7 +72,7 @@ module _ (tables : Tables) (well : Well tables) (es : List Event) where
       (subst (λ (f : Fate). (is_committed_op f || (is_active_op f && eqb (responsible u p) t)) ≡ true) (told.fates p l)
       (subst (λ (x : ℕ). (is_committed_op (op_at (reached tables u).ops p).fate || (is_active_op (op_at (reached tables u).ops p).fate && eqb x t)) ≡ true) (told.responsibles p l) c))
 
-  kept-reads : (u : List Event) (t : ℕ) → Happens h u (Commit t) → parent u t ≡ Nobody → (p q : ℕ) → Tied u p q → is_write (mark u p) ≡ true → is_write (mark u q) ≡ false
+  kept-reads : (u : List Event) (t : ℕ) → Happens h u (Commit t) → parent u t ≡ None → (p q : ℕ) → Tied u p q → is_write (mark u p) ≡ true → is_write (mark u q) ≡ false
       → responsible u q ≡ t → dropped u q ≡ false → kept (u ++ (Commit t ∷ [])) p ≡ true
   kept-reads u t at n p q w a b mine there =
       let told = told_at tables well es u (Commit t) at in

@@ -18,7 +18,7 @@ use Rattle.ties.specs.declared.Operation.{Operation}
 use Rattle.ties.proofs.TieLaws.{between, ties-on}
 use Rattle.histories.specs.Histories.{Deed, told}
 use Rattle.histories.specs.Promises.{AsTold}
-use Rattle.acta.specs.Words.{Precedes, conflicts, dropped, fate, invoked, mark, object, responsible}
+use Rattle.acta.specs.Words.{Precedes, conflicts, dropped, fate, invoked, mark, object}
 use Rattle.acta.proofs.Deeds.{came-by}
 use Rattle.acta.proofs.Invoking.{conflict-then, one_more}
 use Rattle.acta.proofs.Whose.{ended-stays}

@@ -20,7 +20,7 @@ use Rattle.tables.specs.declared.Tables.{Tables}
 use Rattle.tables.proofs.SagaLaws.{known_small}
 use Rattle.rules.specs.Rules.{inactive}
 use Rattle.rules.specs.States.{empty_state, is_aborted, is_active, is_committed, is_idle, phase_of}
-use Rattle.rules.specs.declared.Parent.{Parent}
+use Rattle.rules.specs.States.{Parent}
 use Rattle.rules.specs.declared.Phase.{Phase}
 use Rattle.rules.specs.declared.Phase.TheVariants.{Aborted, Active, Committed, Idle}
 use Rattle.rules.specs.declared.State.{State}

@@ -22,8 +22,8 @@ use Rattle.tables.specs.Accepted.{Well}
 use Rattle.tables.specs.Sorts.{is_undo, sort_of}
 use Rattle.tables.specs.declared.Tables.{Tables}
 use Rattle.rules.specs.States.{is_active, phase_of}
-use Rattle.rules.specs.declared.Parent.{Parent}
-use Rattle.rules.specs.declared.Parent.TheVariants.{Under}
+use Rattle.rules.specs.States.{Parent}
+use Rattle.std.specs.Prelude.{Some}
 use Rattle.rules.specs.declared.Phase.TheVariants.{Committed}
 use Rattle.rules.specs.declared.State.{State}
 use Rattle.rules.proofs.PhaseLaws.{active-is, code}
@@ -131,7 +131,7 @@ module _ (tables : Tables) (well : Well tables) (es : List Event) where
   shows-ended : (t r q : ℕ) → r < most_transactions → runs h q ≡ false → Shows h (size (given q r s.ops)) (op_at (given q r s.ops))
   shows-ended t r q small over = shows-passed h (λ i w. eqb i q) r small refl (λ i. same_or i q (λ e. rw (eq-eqb i q e, e, over)) (λ n. rw (ne_eqb i q n)))
 
-  shows-handed : (t m : ℕ) → m < most_transactions → parent h t ≡ Under m → Shows (h ++ (Commit t ∷ [])) (size (handed t m s.ops)) (op_at (handed t m s.ops))
+  shows-handed : (t m : ℕ) → m < most_transactions → parent h t ≡ Some m → Shows (h ++ (Commit t ∷ [])) (size (handed t m s.ops)) (op_at (handed t m s.ops))
   shows-handed t m small p =
       let to = told_more h (Commit t) ∙ ap (λ (x : Parent). kept t x (moved Committed t (told h))) p in
       shows-passed (h ++ (Commit t ∷ [])) (λ i w. eqb w t) m small (ap (λ (a : Account). a.made) to) (λ i. ap (λ (a : Account). a.deed i) to)
@@ -158,7 +158,7 @@ module _ (tables : Tables) (well : Well tables) (es : List Event) where
       let op = op_with s.ops (size s.ops) (new_op t o m) in
       (ringed (Invoke t o m) n op x, rings (Invoke t o m) n op x)
 
-  pub ring-handed : (t m : ℕ) → m < most_transactions → parent h t ≡ Under m → UndoRinged tables s (before_handed s.ops t m) ↔ RingsUndo tables h (Commit t)
+  pub ring-handed : (t m : ℕ) → m < most_transactions → parent h t ≡ Some m → UndoRinged tables s (before_handed s.ops t m) ↔ RingsUndo tables h (Commit t)
   ring-handed t m small p =
       let x = shows-handed t m small p in
       let n = size (handed t m s.ops) in

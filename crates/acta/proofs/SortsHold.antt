@@ -17,7 +17,7 @@ use Rattle.tables.specs.Sorts.{is_plain, is_saga, is_undo, sort_of}
 use Rattle.tables.specs.declared.Sort.{Sort}
 use Rattle.tables.specs.declared.Sort.TheVariants.{Plain, Saga, Step, Undo, Unknown}
 use Rattle.tables.specs.declared.Tables.{Tables}
-use Rattle.rules.specs.declared.Parent.TheVariants.{Under}
+use Rattle.std.specs.Prelude.{Some}
 use Rattle.histories.specs.Histories.{Account, history, reached, told}
 use Rattle.histories.specs.May.{CouldDelegate}
 use Rattle.histories.proofs.AcceptedWhenHolds.{accepted-when}
@@ -85,7 +85,7 @@ module _ (tables : Tables) (well : Well tables) (es : List Event) where
   -- ---- whose operations are
 
   -- a child and its parent are plain
-  pub child_plain : (u : List Event) (e : Event) → Happens h u e → (c m : ℕ) → parent u c ≡ Under m → (is_plain (sort c) ≡ true) × (is_plain (sort m) ≡ true)
+  pub child_plain : (u : List Event) (e : Event) → Happens h u e → (c m : ℕ) → parent u c ≡ Some m → (is_plain (sort c) ≡ true) × (is_plain (sort m) ≡ true)
   child_plain u e at c m p = (kin tables u).plain c m ((told_at tables well es u e at).parents c ∙ p)
 
   given-at : (u : List Event) (e : Event) → Happens h u e → (t r q : ℕ) → e ≡ Delegate t r q → CouldDelegate tables (reached tables u) t r q

@@ -16,8 +16,8 @@ use Rattle.tables.specs.Sorts.{first_of, is_plain, sort_of, steps_of}
 use Rattle.tables.specs.declared.Sort.{Sort}
 use Rattle.tables.specs.declared.Sort.TheVariants.{Saga, Step, Undo}
 use Rattle.tables.specs.declared.Tables.{Tables}
-use Rattle.rules.specs.declared.Parent.{Parent}
-use Rattle.rules.specs.declared.Parent.TheVariants.{Nobody, Under}
+use Rattle.rules.specs.States.{Parent}
+use Rattle.std.specs.Prelude.{None, Some}
 use Rattle.rules.specs.States.{own, phase_of}
 use Rattle.rules.specs.declared.Phase.{Phase}
 use Rattle.rules.proofs.PhaseLaws.{active-is, code}
@@ -57,8 +57,8 @@ module _ (tables : Tables) (well : Well tables) (es : List Event) where
   commits u t at x q n = by (parent u t) refl
     where
       by : (p : Parent) → parent u t ≡ p → order_lets_commit u x ≡ true
-      by Nobody e = subst (λ (y : Sort). order_lets_commit u y ≡ true) q (((by-preconditions u (Commit t) at).commit t e).0 (taken-there u (Commit t) at)).order
-      by (Under m) e = clash (ap is_plain (sym q) ∙ (child_plain tables well es u (Commit t) at t m e).0) n
+      by None e = subst (λ (y : Sort). order_lets_commit u y ≡ true) q (((by-preconditions u (Commit t) at).commit t e).0 (taken-there u (Commit t) at)).order
+      by (Some m) e = clash (ap is_plain (sym q) ∙ (child_plain tables well es u (Commit t) at t m e).0) n
 
   undo-parts : (u : List Event) (t f n i : ℕ) → sort_of tables t ≡ Undo f n i → Happens h u (Begin t)
       → ((aborted u f ≡ true) × (committed u (f + i) ≡ true)) × ((in_progress u (f + (i + 1)) ≡ false) × (committed u (f + (i + 1)) ≡ true → committed u (f + (n + (i + 1))) ≡ true))

@@ -25,7 +25,7 @@ use Rattle.histories.proofs.RunLaws.{run-append}
 use Rattle.histories.proofs.Steps.{keeps-by}
 use Rattle.histories.proofs.TiesMean.{ties-mean}
 use Rattle.histories.proofs.Touches.{count-up}
-use Rattle.acta.specs.Words.{conflicts, dropped, fate, invoked, mark, object}
+use Rattle.acta.specs.Words.{conflicts, dropped, invoked}
 use Rattle.acta.proofs.Invoking.{conflict-then, one_more}
 
 module _ (tables : Tables) where

@@ -2,7 +2,7 @@
 use Prim.Native.Nat.{ℕ, ◌<◌}
 use native.Mathlib.Omega.{arith}
 use mathlib.Core.Path.{◌≡◌, refl, sym, ap, subst, subst⁻¹, ◌∙◌}
-use mathlib.Core.Bool.{true, false, ◌||◌}
+use mathlib.Core.Bool.{true, false}
 use mathlib.Core.Logic.{◌⊎◌, inl, inr}
 use mathlib.Core.List.{List, ◌∷◌, ◌++◌, append_assoc}
 use Rattle.laws.proofs.Bools.{and_on, clash, or_left, or_right}
@@ -22,7 +22,7 @@ use Rattle.histories.proofs.JudgePromisesHold.{judge-promises}
 use Rattle.acta.specs.Fundamental.{Sorts}
 use Rattle.acta.specs.Told.{IsTold}
 use Rattle.acta.specs.Undos.{UndosPass}
-use Rattle.acta.specs.Words.{Happens, OnRing, Tied, conflicts, dropped, fate, in_progress, invoked, kept, responsible, runs}
+use Rattle.acta.specs.Words.{Happens, Tied, conflicts, fate, invoked, kept, responsible, runs}
 use Rattle.acta.proofs.Deeds.{came-by}
 use Rattle.acta.proofs.DelegatingHolds.{delegation}
 use Rattle.acta.proofs.Runs.{before-it}

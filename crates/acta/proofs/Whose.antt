@@ -11,11 +11,11 @@ use Rattle.terms.specs.declared.Event.TheVariants.{Abort, AbortOne, Begin, Commi
 use Rattle.terms.specs.declared.Mark.{Mark}
 use Rattle.ties.specs.Operations.{is_active}
 use Rattle.ties.specs.declared.Fate.TheVariants.{Aborted as FateAborted, Committed as FateCommitted}
-use Rattle.rules.specs.declared.Parent.{Parent}
-use Rattle.rules.specs.declared.Parent.TheVariants.{Nobody, Under}
+use Rattle.rules.specs.States.{Parent}
+use Rattle.std.specs.Prelude.{None, Some}
 use Rattle.rules.specs.declared.Phase.TheVariants.{Committed}
 use Rattle.histories.specs.Histories.{Account, Deed, kept, moved, of_the, only, recounted, retell, to_fate, to_receiver, told}
-use Rattle.acta.specs.Words.{fate, invoked, parent, responsible, runs}
+use Rattle.acta.specs.Words.{invoked, parent, responsible, runs}
 use Rattle.acta.proofs.Deeds.{made_up, told_more}
 
 -- ---- an operation that was there before
@@ -23,12 +23,12 @@ use Rattle.acta.proofs.Deeds.{made_up, told_more}
 -- what becomes of q by e; d is what is told of it then
 pub data Fares (u : List Event) (e : Event) (q : ℕ) (d : Deed) : Type 0 where
   unmoved : d ≡ (told u).deed q → Fares u e q d
-  kept-with : runs u q ≡ true → e ≡ Commit (responsible u q) → parent u (responsible u q) ≡ Nobody → d ≡ to_fate FateCommitted ((told u).deed q) → Fares u e q d
+  kept-with : runs u q ≡ true → e ≡ Commit (responsible u q) → parent u (responsible u q) ≡ None → d ≡ to_fate FateCommitted ((told u).deed q) → Fares u e q d
   dropped-with : runs u q ≡ true → e ≡ Abort (responsible u q) → d ≡ to_fate FateAborted ((told u).deed q) → Fares u e q d
   kept-alone : (t : ℕ) → runs u q ≡ true → e ≡ CommitOne t q → d ≡ to_fate FateCommitted ((told u).deed q) → Fares u e q d
   dropped-alone : (t : ℕ) → runs u q ≡ true → e ≡ AbortOne t q → d ≡ to_fate FateAborted ((told u).deed q) → Fares u e q d
   given_to : (t r : ℕ) → runs u q ≡ true → e ≡ Delegate t r q → d ≡ to_receiver r ((told u).deed q) → Fares u e q d
-  handed-to : (m : ℕ) → runs u q ≡ true → e ≡ Commit (responsible u q) → parent u (responsible u q) ≡ Under m → d ≡ to_receiver m ((told u).deed q) → Fares u e q d
+  handed-to : (m : ℕ) → runs u q ≡ true → e ≡ Commit (responsible u q) → parent u (responsible u q) ≡ Some m → d ≡ to_receiver m ((told u).deed q) → Fares u e q d
 
 module _ (u : List Event) (q : ℕ) where
   abbrev a : Account
@@ -47,12 +47,12 @@ module _ (u : List Event) (q : ℕ) where
   faring (Commit t) l = by-parent (a.parent t) refl
     where
       by-parent : (p : Parent) → a.parent t ≡ p → Fares u (Commit t) q ((kept t p (moved Committed t a)).deed q)
-      by-parent Nobody e =
+      by-parent None e =
           unless (of_the t) (to_fate FateCommitted) (moved Committed t a) (Fares u (Commit t) q) (unmoved refl)
-          (λ x y. let w = sym (eqb-true (responsible u q) t x) in kept-with y (ap Commit w) (subst (λ (z : ℕ). parent u z ≡ Nobody) w e) refl)
-      by-parent (Under m) e =
+          (λ x y. let w = sym (eqb-true (responsible u q) t x) in kept-with y (ap Commit w) (subst (λ (z : ℕ). parent u z ≡ None) w e) refl)
+      by-parent (Some m) e =
           unless (of_the t) (to_receiver m) (moved Committed t a) (Fares u (Commit t) q) (unmoved refl)
-          (λ x y. let w = sym (eqb-true (responsible u q) t x) in handed-to m y (ap Commit w) (subst (λ (z : ℕ). parent u z ≡ Under m) w e) refl)
+          (λ x y. let w = sym (eqb-true (responsible u q) t x) in handed-to m y (ap Commit w) (subst (λ (z : ℕ). parent u z ≡ Some m) w e) refl)
   faring (Abort t) l =
       unless (of_the t) (to_fate FateAborted) a (Fares u (Abort t) q) (unmoved refl) (λ x y. dropped-with y (ap Abort (sym (eqb-true (responsible u q) t x))) refl)
   faring (Invoke t o m) l = rw (ne_eqb q a.made (λ e. absurd (omega arith))) (unmoved refl)
@@ -89,7 +89,7 @@ ended-stays q (e ∷ v) u l over =
 pub data Passes (u : List Event) (e : Event) (q : ℕ) (now : ℕ) : Type 0 where
   as-was : now ≡ responsible u q → Passes u e q now
   given : (t r : ℕ) → e ≡ Delegate t r q → now ≡ r → Passes u e q now
-  handed : (m : ℕ) → e ≡ Commit (responsible u q) → parent u (responsible u q) ≡ Under m → now ≡ m → Passes u e q now
+  handed : (m : ℕ) → e ≡ Commit (responsible u q) → parent u (responsible u q) ≡ Some m → now ≡ m → Passes u e q now
 
 pub passes : (u : List Event) (q : ℕ) (e : Event) → q < invoked u → Passes u e q (responsible (u ++ (e ∷ [])) q)
 passes u q e l = of (fares u q e l)
@@ -118,8 +118,8 @@ pub fresh : (u : List Event) (e : Event) (q : ℕ) → invoked u ≤ q → q < i
 fresh u e q l b = by e (subst (λ (x : Account). q < x.made) (told_more u e) b)
   where
     kept-made : (t : ℕ) (p : Parent) (x : Account) → (kept t p x).made ≡ x.made
-    kept-made t Nobody x = refl
-    kept-made t (Under m) x = refl
+    kept-made t None x = refl
+    kept-made t (Some m) x = refl
 
     by : (e : Event) → q < (recounted e (told u)).made → Fresh u e q
     by (Begin t) b = absurd (omega arith)

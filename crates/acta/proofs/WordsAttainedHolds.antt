@@ -1,12 +1,12 @@
 -- Each of a saga's words is attained: event by event its precondition holds of those before it.
-use Prim.Native.Nat.{ℕ, zero, suc, ◌+◌, ◌*◌, ◌-◌, ◌≤◌, ◌<◌, min}
+use Prim.Native.Nat.{ℕ, zero, suc, ◌+◌, ◌-◌, ◌≤◌, ◌<◌}
 use native.Mathlib.Omega.{arith}
 use mathlib.Core.Path.{◌≡◌, refl, sym, ap, subst, subst⁻¹, ◌∙◌}
 use mathlib.Core.Bool.{Bool, true, false, not, ◌&&◌, ◌||◌, and-false}
 use mathlib.Core.Logic.{◌≢◌, ◌⊎◌, inl, inr, ⊎_elim}
 use mathlib.Core.List.{List, [], ◌∷◌, ◌++◌, append_assoc, append-nil}
-use lib.Dec.{eqb, leb, ltb}
-use borrow.Author.Tests.{eq-eqb, le-leb, lt-ltb, ne_eqb}
+use lib.Dec.{leb, ltb}
+use borrow.Author.Tests.{eq-eqb, lt-ltb, ne_eqb}
 use Rattle.laws.proofs.Bools.{and_on, clash, not_on, off-or, on_and, on-not, or_left, or_off, or_right}
 use Rattle.laws.proofs.Decisions.{lt-or, same_or}
 use Rattle.terms.specs.declared.Event.{Event}
@@ -22,8 +22,8 @@ use Rattle.tables.specs.declared.Tables.{Tables}
 use Rattle.tables.proofs.EntriesInWordsHold.{entries-in-words}
 use Rattle.tables.proofs.SagaLaws.{sort-saga, sort-step, sort-undo, well-steps}
 use Rattle.rules.specs.States.{is_aborted, is_child, is_committed, is_idle, phase_of}
-use Rattle.rules.specs.declared.Parent.{Parent}
-use Rattle.rules.specs.declared.Parent.TheVariants.{Nobody, Under}
+use Rattle.rules.specs.States.{Parent}
+use Rattle.std.specs.Prelude.{None, Some}
 use Rattle.rules.specs.declared.Phase.{Phase}
 use Rattle.rules.specs.declared.Phase.TheVariants.{Aborted, Active, Committed, Idle}
 use Rattle.histories.specs.Histories.{Account, history, kept, moved, reached, taken, told}
@@ -37,7 +37,6 @@ use Rattle.acta.proofs.AcceptingHolds.{accepting}
 use Rattle.acta.proofs.Deeds.{nothing-told, told_more}
 use Rattle.acta.proofs.Invoking.{one_more}
 use Rattle.acta.proofs.Places.{occurs-append}
-use Rattle.acta.proofs.Runs.{is_history}
 use Rattle.acta.proofs.ToldHolds.{is_told}
 
 -- one event more
@@ -68,7 +67,7 @@ module _ (tables : Tables) (well : Well tables) where
   record At (u : List Event) : Type 0 where
     all : history tables u ≡ u
     none : invoked u ≡ 0
-    no_child : (c : ℕ) → parent u c ≡ Nobody
+    no_child : (c : ℕ) → parent u c ≡ None
 
   module _ (u : List Event) (at : At u) where
     takes-when : Accepting tables u
@@ -124,7 +123,7 @@ module _ (tables : Tables) (well : Well tables) where
           no_child = λ c. ap (λ (a : Account). a.parent c) (told_more u (Commit t)) ∙ ap (λ (p : Parent). (kept t p (moved Committed t (told u))).parent c) (at.no_child t) ∙ at.no_child c;
         }
       where
-        nobody : (c : ℕ) → parent u c ≡ Under t → ⊥
+        nobody : (c : ℕ) → parent u c ≡ Some t → ⊥
         nobody c p = clash (ap is_child (sym (at.no_child c) ∙ p)) refl
 
     abort-more : (t : ℕ) → in_progress u t ≡ true → order_lets_abort u (sort_of tables t) ≡ true → At (u ++ (Abort t ∷ []))

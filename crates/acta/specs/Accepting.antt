@@ -1,5 +1,5 @@
 -- Nothing else is refused (000, 10.2.3: an event whose precondition holds is invoked). What stands behind a history h is accepted exactly when its line here holds of h.
-use Rattle.std.specs.Prelude.{ℕ, ◌+◌, ◌-◌, ◌<◌, ◌≡◌, Bool, true, false, not, ◌&&◌, ◌||◌, ◌↔◌, ◌≢◌, ◌⊎◌, List, [], ◌∷◌, ◌++◌, leb, ltb}
+use Rattle.std.specs.Prelude.{ℕ, ◌+◌, ◌-◌, ◌<◌, ◌≡◌, Bool, true, false, not, ◌&&◌, ◌||◌, ◌↔◌, ◌≢◌, ◌⊎◌, List, [], ◌∷◌, ◌++◌, leb, ltb, None, Some}
 use Rattle.terms.specs.Events.{is_write}
 use Rattle.terms.specs.declared.Event.{Event}
 use Rattle.terms.specs.declared.Event.TheVariants.{Abort, AbortOne, Begin, Commit, CommitOne, Delegate, Operation as Invoke, Spawn}
@@ -11,7 +11,6 @@ use Rattle.tables.specs.declared.Kind.{Kind}
 use Rattle.tables.specs.declared.Sort.{Sort}
 use Rattle.tables.specs.declared.Sort.TheVariants.{Plain, Saga, Step, Undo, Unknown}
 use Rattle.tables.specs.declared.Tables.{Tables}
-use Rattle.rules.specs.declared.Parent.TheVariants.{Nobody, Under}
 use Rattle.acta.specs.Completing.{Takes}
 use Rattle.acta.specs.Delegating.{works}
 use Rattle.acta.specs.Depending.{Declared, lets_begin, lets_commit}
@@ -77,7 +76,7 @@ pub record CommitsWhen (tables : Tables) (h : List Event) (t : ℕ) : Type 0 whe
   pub going : in_progress h t ≡ true
   pub order : order_lets_commit h (sort_of tables t) ≡ true
   pub declared : (b : ℕ) (k : Kind) → Declared tables t b k → lets_commit k h b ≡ true
-  pub children : (c : ℕ) → parent h c ≡ Under t → in_progress h c ≡ false
+  pub children : (c : ℕ) → parent h c ≡ Some t → in_progress h c ≡ false
   pub reads : (q : ℕ) → q < invoked h → responsible h q ≡ t → dropped h q ≡ false → ReadsClean h t q
   pub off_rings : OnRing h t → ⊥
 
@@ -85,7 +84,7 @@ pub record CommitsWhen (tables : Tables) (h : List Event) (t : ℕ) : Type 0 whe
 pub record HandsWhen (tables : Tables) (h : List Event) (t m : ℕ) : Type 0 where
   pub going : in_progress h t ≡ true
   pub declared : (b : ℕ) (k : Kind) → Declared tables t b k → lets_commit k h b ≡ true
-  pub children : (c : ℕ) → parent h c ≡ Under t → in_progress h c ≡ false
+  pub children : (c : ℕ) → parent h c ≡ Some t → in_progress h c ≡ false
   pub parent_going : in_progress h m ≡ true
   pub no_ring : RingsUndo tables h (Commit t) → ⊥
 
@@ -125,7 +124,7 @@ pub record DropsOneWhen (tables : Tables) (h : List Event) (t q : ℕ) : Type 0 
 
 pub record KeepsOneWhen (tables : Tables) (h : List Event) (t q : ℕ) : Type 0 where
   pub may_end : DropsOneWhen tables h t q
-  pub no_child : parent h t ≡ Nobody
+  pub no_child : parent h t ≡ None
   pub reads : ReadsClean h t q
   pub off_rings : OnRing h t → ⊥
 
@@ -133,8 +132,8 @@ pub record KeepsOneWhen (tables : Tables) (h : List Event) (t q : ℕ) : Type 0 
 pub record Accepting (tables : Tables) (h : List Event) : Type 0 where
   pub begin : (t : ℕ) → Takes tables h (Begin t) ↔ BeginsWhen tables h t
   pub spawn : (m c : ℕ) → Takes tables h (Spawn m c) ↔ SpawnsWhen tables h m c
-  pub commit : (t : ℕ) → parent h t ≡ Nobody → Takes tables h (Commit t) ↔ CommitsWhen tables h t
-  pub hand : (t m : ℕ) → parent h t ≡ Under m → Takes tables h (Commit t) ↔ HandsWhen tables h t m
+  pub commit : (t : ℕ) → parent h t ≡ None → Takes tables h (Commit t) ↔ CommitsWhen tables h t
+  pub hand : (t m : ℕ) → parent h t ≡ Some m → Takes tables h (Commit t) ↔ HandsWhen tables h t m
   pub abort : (t : ℕ) → Takes tables h (Abort t) ↔ AbortsWhen tables h t
   pub invoke : (t o : ℕ) (m : Mark) → Takes tables h (Invoke t o m) ↔ InvokesWhen tables h t o m
   pub delegate : (t r q : ℕ) → Takes tables h (Delegate t r q) ↔ DelegatesWhen tables h t r q

@@ -1,5 +1,5 @@
 -- Accepted histories are histories of the saga model: all axioms together, for all well-formed tables and any events, refused ones dropped.
-use Rattle.std.specs.Prelude.{◌≡◌, ℕ, ◌<◌, List}
+use Rattle.std.specs.Prelude.{◌≡◌, ℕ, ◌<◌, List, Ok}
 use Rattle.number.specs.declared.Edition.{Edition}
 use Rattle.terms.specs.declared.Event.{Event}
 use Rattle.terms.specs.declared.Mark.{Mark}
@@ -8,7 +8,6 @@ use Rattle.tables.specs.Reading.{tables_by}
 use Rattle.tables.specs.Sorts.{first_of, steps_of}
 use Rattle.tables.specs.declared.Circles.{Circles}
 use Rattle.tables.specs.declared.Tables.{Tables}
-use Rattle.tables.specs.declared.TablesAnswer.TheVariants.{Read}
 use Rattle.histories.specs.Histories.{history}
 use Rattle.acta.specs.Accepting.{Accepting, Unlocked}
 use Rattle.acta.specs.Awaiting.{InTurn}
@@ -75,4 +74,4 @@ Acta = (tables : Tables) → Well tables → (es : List Event) → Axioms tables
 
 -- so for all tables that reading accepts, circles permitted or not
 abbrev pub ActaRead : Type 0
-ActaRead = (circles : Circles) (ed : Edition) (s : List ℕ) (at : ℕ) → (tables_by circles ed s).answer ≡ Read at → (es : List Event) → Axioms (tables_by circles ed s).tables es
+ActaRead = (circles : Circles) (ed : Edition) (s : List ℕ) (at : ℕ) → (tables_by circles ed s).answer ≡ Ok at → (es : List Event) → Axioms (tables_by circles ed s).tables es

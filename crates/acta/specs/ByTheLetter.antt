@@ -1,12 +1,11 @@
 -- Complete histories meet the formulas by the letter (000, fundamental IV, 10.2.2, Spawn, saga 19 to 21, Lemmas 10.1 and 10.2, Theorem 10.1, 10.3; 003, 3.2). h is a history.
-use Rattle.std.specs.Prelude.{ℕ, ◌+◌, ◌≤◌, ◌<◌, ◌≡◌, true, false, ◌⊎◌, List}
+use Rattle.std.specs.Prelude.{ℕ, ◌+◌, ◌≤◌, ◌<◌, ◌≡◌, true, false, ◌⊎◌, List, Some}
 use Rattle.terms.specs.Events.{is_write}
 use Rattle.terms.specs.declared.Event.{Event}
 use Rattle.terms.specs.declared.Event.TheVariants.{Abort as Aborts, Commit as Commits, CommitOne}
 use Rattle.tables.specs.Sorts.{first_of, steps_of}
 use Rattle.tables.specs.declared.Kind.TheVariants.{Abort, Commit, WeakAbort}
 use Rattle.tables.specs.declared.Tables.{Tables}
-use Rattle.rules.specs.declared.Parent.TheVariants.{Under}
 use Rattle.acta.specs.Delegating.{works}
 use Rattle.acta.specs.Depending.{Declared}
 use Rattle.acta.specs.SagaWords.{Word, own_word}
@@ -31,9 +30,9 @@ pub record ByTheLetter (tables : Tables) (h : List Event) : Type 0 where
   pub step_aborts : (u : List Event) (i j : ℕ) → i < tables.sagas → 1 ≤ j → j ≤ steps_of tables i → Happens h u (Aborts (first_of tables i)) → committed u (first_of tables i + j) ≡ false
       → began h (first_of tables i + j) ≡ true → aborted h (first_of tables i + j) ≡ true
   -- 000, Spawn; 003, 3.2: child WD parent: if the parent aborts and the child has not committed by then, the child aborts
-  pub child_aborts : (u : List Event) (m c : ℕ) → parent h c ≡ Under m → Happens h u (Aborts m) → committed u c ≡ false → aborted h c ≡ true
+  pub child_aborts : (u : List Event) (m c : ℕ) → parent h c ≡ Some m → Happens h u (Aborts m) → committed u c ≡ false → aborted h c ≡ true
   -- parent CD child: if both commit, the child does so first
-  pub child_first : (u : List Event) (m c : ℕ) → parent h c ≡ Under m → Happens h u (Commits m) → committed h c ≡ true → committed u c ≡ true
+  pub child_first : (u : List Event) (m c : ℕ) → parent h c ≡ Some m → Happens h u (Commits m) → committed h c ≡ true → committed u c ≡ true
   -- 10.3, objects behave correctly, atomic 7 and saga 16: where a write is dropped, so is every read tied behind it, but one that was kept alone while that write ran and was the reader's own
   pub reads_dropped : (p q : ℕ) → Tied h p q → is_write (mark h p) ≡ true → is_write (mark h q) ≡ false → dropped h p ≡ true
       → (dropped h q ≡ true) ⊎ ((u : List Event) × (t : ℕ) × Happens h u (CommitOne t q) × (works u t p ≡ true))

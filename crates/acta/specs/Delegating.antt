@@ -1,12 +1,11 @@
 -- Operations: how they end, and delegation (000, 10.2.3, atomic 9 to 12, saga 12 to 15; 004, sections 1 and 3). h is a history.
-use Rattle.std.specs.Prelude.{ℕ, ◌<◌, ◌≡◌, Bool, true, false, cond, ◌&&◌, ◌↔◌, ◌≢◌, ◌⊎◌, List, [], ◌∷◌, ◌++◌, eqb}
+use Rattle.std.specs.Prelude.{ℕ, ◌<◌, ◌≡◌, Bool, true, false, cond, ◌&&◌, ◌↔◌, ◌≢◌, ◌⊎◌, List, [], ◌∷◌, ◌++◌, eqb, None, Some}
 use Rattle.terms.specs.declared.Event.{Event}
 use Rattle.terms.specs.declared.Event.TheVariants.{Abort, AbortOne, Begin, Commit, CommitOne, Delegate, Operation as Invoke, Spawn}
 use Rattle.terms.specs.declared.Mark.{Mark}
 use Rattle.ties.specs.declared.Fate.TheVariants.{Aborted, Committed}
 use Rattle.tables.specs.Sorts.{is_plain, sort_of}
 use Rattle.tables.specs.declared.Tables.{Tables}
-use Rattle.rules.specs.declared.Parent.TheVariants.{Nobody, Under}
 use Rattle.histories.specs.Histories.{history, told}
 use Rattle.acta.specs.Words.{Happens, Tied, aborted, committed, dropped, ends, fate, in_progress, invoked, kept, parent, responsible, runs}
 
@@ -28,12 +27,12 @@ ends_one q (Spawn m c) = false
 -- ★7, by the responsible transaction, not by the invoker: 004 decides
 pub record Endings (tables : Tables) (h : List Event) : Type 0 where
   -- 000, atomic 9 and 10, saga 12 and 13: with the commit of t exactly those that it is at work on are kept
-  pub commit : (u : List Event) (t : ℕ) → Happens h u (Commit t) → parent u t ≡ Nobody
+  pub commit : (u : List Event) (t : ℕ) → Happens h u (Commit t) → parent u t ≡ None
       → (q : ℕ) → fate (u ++ (Commit t ∷ [])) q ≡ cond (works u t q) Committed (fate u q)
   -- 000, atomic 11 and 12, saga 14 and 15: with its abort exactly those are dropped
   pub abort : (u : List Event) (t : ℕ) → Happens h u (Abort t) → (q : ℕ) → fate (u ++ (Abort t ∷ [])) q ≡ cond (works u t q) Aborted (fate u q)
   -- 004, nested commit: a child's commit ends none of them, and makes them its parent's
-  pub hand : (u : List Event) (t m : ℕ) → Happens h u (Commit t) → parent u t ≡ Under m
+  pub hand : (u : List Event) (t m : ℕ) → Happens h u (Commit t) → parent u t ≡ Some m
       → (q : ℕ) → (responsible (u ++ (Commit t ∷ [])) q ≡ cond (works u t q) m (responsible u q)) × (fate (u ++ (Commit t ∷ [])) q ≡ fate u q)
   -- what ends ends by its responsible one's commit or abort, or, if that is plain, alone
   pub by : (u : List Event) (e : Event) → Happens h u e → (q : ℕ) → q < invoked u → runs u q ≡ true → runs (u ++ (e ∷ [])) q ≡ false

@@ -1,28 +1,27 @@
 -- Atomic objects and serializability (000, 10.3, atomic 7 and 8, saga 16 and 17; 004, section 2). h is a history.
-use Rattle.std.specs.Prelude.{ℕ, ◌<◌, ◌≡◌, true, false, ◌↔◌, ◌≢◌, ◌⊎◌, List, [], ◌∷◌, ◌++◌}
+use Rattle.std.specs.Prelude.{ℕ, ◌<◌, ◌≡◌, true, false, ◌↔◌, ◌≢◌, ◌⊎◌, List, [], ◌∷◌, ◌++◌, None}
 use Rattle.terms.specs.Events.{is_write}
 use Rattle.terms.specs.declared.Event.{Event}
 use Rattle.terms.specs.declared.Event.TheVariants.{Commit, CommitOne}
-use Rattle.rules.specs.declared.Parent.TheVariants.{Nobody}
 use Rattle.replay.specs.Replay.{listed}
 use Rattle.acta.specs.Delegating.{works}
 use Rattle.acta.specs.Words.{Follows, Happens, KeptConflict, OnRing, Tied, dropped, invoked, kept, mark, parent, responsible}
 
 -- ★10: 000, atomic 8 and saga 17: nobody commits on a ring of C, where dropped operations do not count. A child that commits keeps nothing: its parent answers.
 pub record OffRings (h : List Event) : Type 0 where
-  pub commit : (u : List Event) (t : ℕ) → Happens h u (Commit t) → parent u t ≡ Nobody → OnRing u t → ⊥
+  pub commit : (u : List Event) (t : ℕ) → Happens h u (Commit t) → parent u t ≡ None → OnRing u t → ⊥
   pub keeps_one : (u : List Event) (t q : ℕ) → Happens h u (CommitOne t q) → OnRing u t → ⊥
 
 -- ★11: 000, 10.3, objects behave correctly, and the return-value dependence of 10.2.3: what a committed one read was written by one whose write is kept
 pub record Recoverable (h : List Event) : Type 0 where
   -- whoever commits: each write tied before a read of its own that is not dropped is kept with that commit
-  pub commit : (u : List Event) (t : ℕ) → Happens h u (Commit t) → parent u t ≡ Nobody → (p q : ℕ) → Tied u p q → is_write (mark u p) ≡ true → is_write (mark u q) ≡ false
+  pub commit : (u : List Event) (t : ℕ) → Happens h u (Commit t) → parent u t ≡ None → (p q : ℕ) → Tied u p q → is_write (mark u p) ≡ true → is_write (mark u q) ≡ false
       → responsible u q ≡ t → dropped u q ≡ false → kept (u ++ (Commit t ∷ [])) p ≡ true
   -- if another is responsible for that write, it was kept before: the writer commits first
-  pub writer_first : (u : List Event) (t : ℕ) → Happens h u (Commit t) → parent u t ≡ Nobody → (p q : ℕ) → Tied u p q → is_write (mark u p) ≡ true → is_write (mark u q) ≡ false
+  pub writer_first : (u : List Event) (t : ℕ) → Happens h u (Commit t) → parent u t ≡ None → (p q : ℕ) → Tied u p q → is_write (mark u p) ≡ true → is_write (mark u q) ≡ false
       → responsible u q ≡ t → dropped u q ≡ false → responsible u p ≢ t → kept u p ≡ true
   -- and so for good
-  pub for_good : (u : List Event) (t : ℕ) → Happens h u (Commit t) → parent u t ≡ Nobody → (p q : ℕ) → Tied u p q → is_write (mark u p) ≡ true → is_write (mark u q) ≡ false
+  pub for_good : (u : List Event) (t : ℕ) → Happens h u (Commit t) → parent u t ≡ None → (p q : ℕ) → Tied u p q → is_write (mark u p) ≡ true → is_write (mark u q) ≡ false
       → responsible u q ≡ t → dropped u q ≡ false → kept h p ≡ true
   -- a read kept alone: each such write is kept, or is the reader's own and runs
   pub keeps_one : (u : List Event) (t q : ℕ) → Happens h u (CommitOne t q) → (p : ℕ) → Tied u p q → is_write (mark u p) ≡ true → is_write (mark u q) ≡ false

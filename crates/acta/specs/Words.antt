@@ -7,7 +7,7 @@ use Rattle.terms.specs.declared.Event.TheVariants.{Abort, AbortOne, Begin, Commi
 use Rattle.terms.specs.declared.Mark.{Mark}
 use Rattle.ties.specs.Operations.{is_aborted, is_active, is_committed}
 use Rattle.ties.specs.declared.Fate.{Fate}
-use Rattle.rules.specs.declared.Parent.{Parent}
+use Rattle.rules.specs.States.{Parent}
 use Rattle.histories.specs.Histories.{told}
 
 -- ---- what stands where

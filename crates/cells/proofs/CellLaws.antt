@@ -20,9 +20,7 @@ use Rattle.ties.specs.declared.Fate.TheVariants.{Aborted, Active, Committed}
 use Rattle.ties.specs.declared.Operation.{Operation}
 use Rattle.ties.specs.Operations.{most_operations, is_active, no_operation, no_ops, op_at, size, passed_to, given_to, held_by, ended_as, ended_alone, ended_one, changed, rewrites, rewritten, only_active, all_held_by}
 use Rattle.ties.proofs.OpsLaws.{made-room, made-full, stored, one-stored, one-past, changed-none, changed-more, changed-above, changed-all}
-use Rattle.cells.specs.Cells.{mark_in, fate_in, mark_code, fate_code, op_in, ops_in, fits, made_in, given_in, becomes, keeps_fit, held_in, Next, WholeOps}
-use Rattle.cells.specs.declared.Becomes.{Becomes}
-use Rattle.cells.specs.declared.Becomes.TheVariants.{Ended as EndedThen, Passed as PassedThen}
+use Rattle.cells.specs.Cells.{mark_in, fate_in, mark_code, fate_code, op_in, ops_in, fits, made_in, given_in, held_in, Next, WholeOps}
 
 -- ---- one number
 
@@ -58,11 +56,11 @@ fate-back Aborted = refl
 fate-back Active = refl
 fate-back Committed = refl
 
-pub mark-small : (mark : Mark) → mark_code mark < 2
+mark-small : (mark : Mark) → mark_code mark < 2
 mark-small Read = omega arith
 mark-small Write = omega arith
 
-pub fate-small : (fate : Fate) → fate_code fate < 3
+fate-small : (fate : Fate) → fate_code fate < 3
 fate-small Aborted = omega arith
 fate-small Active = omega arith
 fate-small Committed = omega arith
@@ -114,6 +112,9 @@ ended-fits fate accepted op l h = let s = fit_parts op h in parts-fit (ended_as 
 pub alone-fits : (fate : Fate) (accepted : ℕ) (op : Operation) → accepted < 512 → fits op ≡ true → fits (ended_alone fate accepted op) ≡ true
 alone-fits fate accepted op l h =
     bool_cases (is_active op.fate) (λ a. rw a (ended-fits fate accepted op l h)) (λ a. rw a h)
+
+pub passed-fits : (receiver : ℕ) (op : Operation) → receiver < 64 → fits op ≡ true → fits (passed_to receiver op) ≡ true
+passed-fits receiver op l h = let s = fit_parts op h in parts-fit (passed_to receiver op) s.0 l s.1.1
 
 -- ---- many
 
@@ -246,11 +247,6 @@ pub done_all : (t : ℕ) (how : Operation → Operation) (l₀ : List ℕ) (n i 
     → ops_in l n ≡ rewritten (all_held_by t) how (ops_in l₀ n)
 unfolding ops_in
 done_all t how l₀ n i l h e = changed-all (all_held_by t) how (ops_in l₀ n) i (map op_in l) h e
-
--- whatever becomes of an operation, a number can stand for it
-pub becomes-fits : (how : Becomes) (op : Operation) → keeps_fit how → fits op ≡ true → fits (becomes how op) ≡ true
-becomes-fits (EndedThen fate accepted) op l h = ended-fits fate accepted op l h
-becomes-fits (PassedThen receiver) op l h = let s = fit_parts op h in parts-fit (passed_to receiver op) s.0 l s.1.1
 
 -- ---- the operations by value
 

@@ -2,14 +2,10 @@
 use Prim.Native.Nat.{ℕ, ◌+◌, ◌≤◌, ◌<◌}
 use native.Mathlib.Omega.{arith}
 use mathlib.Core.Path.{◌≡◌, sym, ◌∙◌}
-use mathlib.Core.Bool.{Bool, true, false, and-false}
-use mathlib.Core.Logic.{◌≢◌}
-use borrow.Author.Tests.{ne_eqb}
+use mathlib.Core.Bool.{Bool, true, false}
 use Rattle.laws.specs.Index.{any_below}
 use Rattle.laws.proofs.Decisions.{lt-or, same_or}
 use Rattle.laws.proofs.IndexLaws.{any-off, off-any}
-use Rattle.ties.specs.declared.Operation.{Operation}
-use Rattle.ties.specs.Operations.{is_active, held_by}
 use Rattle.cells.specs.Cells.{Next}
 
 module _ (f : ℕ → Bool) (first : ℕ) where
@@ -29,10 +25,6 @@ module _ (f : ℕ → Bool) (first : ℕ) where
 
   pub next-none : (i to : ℕ) → Passed i → first ≤ to → to ≤ i → Next f first to to
   next-none i to p l m = record { low = l; high = omega arith; none = λ k a b. p k a (omega arith); here = λ k. absurd (omega arith) }
-
--- what another is responsible for t does not hold
-pub not-held : (t : ℕ) (op : Operation) → op.responsible ≢ t → held_by t op ≡ false
-not-held t op h = rw (ne_eqb op.responsible t h) (and-false (is_active op.fate))
 
 -- a search that leaves out the places at which another test does not hold
 pub any-skipped : (f g : ℕ → Bool) (i to r : ℕ) → any_below i f ≡ false → Next g i to r → ((k : ℕ) → g k ≡ false → f k ≡ false) → any_below r f ≡ false

@@ -8,10 +8,8 @@ use Rattle.ties.specs.declared.Fate.{Fate}
 use Rattle.ties.specs.declared.Fate.TheVariants.{Aborted, Active, Committed}
 use Rattle.ties.specs.declared.Operation.{Operation}
 use Rattle.ties.specs.declared.Ops.{Ops}
-use Rattle.ties.specs.Operations.{ended_as, made, given, handed, held_by, most_operations, no_operation, op_at, passed_to}
+use Rattle.ties.specs.Operations.{made, given, handed, held_by, most_operations, no_operation, op_at}
 use Rattle.ties.specs.Ties.{read_by}
-use Rattle.cells.specs.declared.Becomes.{Becomes}
-use Rattle.cells.specs.declared.Becomes.TheVariants.{Ended, Passed}
 
 abbrev pub mark_in : ℕ → Mark
 mark_in k = cond (eqb k 0) Read Write
@@ -53,24 +51,18 @@ given_in q receiver ops = cond (ltb receiver most_transactions) (given q receive
 abbrev pub handed_in : ℕ → ℕ → Ops → Ops
 handed_in t receiver ops = cond (ltb receiver most_transactions) (handed t receiver ops) ops
 
--- what becomes of each operation that t is at work on: it ends, when so many were accepted, or another answers for it
-abbrev pub becomes : Becomes → Operation → Operation
-becomes (Ended fate accepted) = ended_as fate accepted
-becomes (Passed receiver) = passed_to receiver
-
--- numbers can stand for that
-abbrev pub keeps_fit : Becomes → Type 0
-keeps_fit (Ended fate accepted) = accepted < 512
-keeps_fit (Passed receiver) = receiver < most_transactions
-
 -- ---- going through numbers
 
--- number i stands for an active operation t is responsible for, or for a read t answers for
+-- number i stands for an operation of which a test says yes
+abbrev pub found_in : List ℕ → (Operation → Bool) → ℕ → Bool
+found_in cells is i = is (op_in (get_or cells i 0))
+
+-- for an active operation t is responsible for, or for a read t answers for
 abbrev pub held_in : List ℕ → ℕ → ℕ → Bool
-held_in cells t i = held_by t (op_in (get_or cells i 0))
+held_in cells t = found_in cells (held_by t)
 
 abbrev pub read_in : List ℕ → ℕ → ℕ → Bool
-read_in cells t i = read_by t (op_in (get_or cells i 0))
+read_in cells t = found_in cells (read_by t)
 
 -- r is the first place from `from` up at which f holds, or `to`, below which there is none
 pub record Next (f : ℕ → Bool) (from to r : ℕ) : Type 0 where

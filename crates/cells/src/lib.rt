@@ -2,14 +2,16 @@
 // value stands for an operation, so that no lent room can harm.
 #![tactic(auto)]
 
-ghost use Rattle.std.specs.Prelude.{◌≡◌, true, ◌&&◌, ℕ, ◌≤◌, ◌<◌, min, ltb};
+ghost use Rattle.std.specs.Prelude.{◌≡◌, true, ◌&&◌, ℕ, ◌≤◌, ◌<◌, min, ltb, Bool};
+ghost use Rattle.ties.specs.declared.Operation.{Operation};
 ghost use Rattle.ties.specs.Operations.{most_operations, ended_one, ended_ops, rewritten, all_held_by};
 ghost use Rattle.ties.specs.Ties.{dirty_at, dirty, must_wait};
-ghost use Rattle.cells.specs.Cells.{mark_in, fate_in, mark_code, fate_code, op_in, fits, ops_in, made_in, given_in, handed_in, becomes, keeps_fit, held_in, read_in, Next, WholeOps};
+ghost use Rattle.cells.specs.Cells.{mark_in, fate_in, mark_code, fate_code, op_in, fits, ops_in, made_in, given_in, handed_in, found_in, held_in, read_in, Next, WholeOps};
 
 use terms::{Book, Mark};
 use ties::{Fate, Operation, Ops};
 
+// Marks and fates are codes in the lent numbers, since C lends that memory, and any number has to stand for something.
 fn mark_in(k: u32) -> Mark
     ensures { result ≡ mark_in k }
 {
@@ -52,13 +54,11 @@ fn fate_code(fate: Fate) -> u32
 pub fn op_in(c: u32) -> Operation
     ensures { result ≡ op_in c }
 {
-    let mark = mark_in(c / 32 % 2);
-    let fate = fate_in(c / 64 % 4);
     Operation {
         object: (c % 32) as u8,
-        mark,
+        mark: mark_in(c / 32 % 2),
         responsible: (c / 256 % 64) as u16,
-        fate,
+        fate: fate_in(c / 64 % 4),
         ended: (c / 16384 % 512) as u16,
     }
 }
@@ -69,8 +69,7 @@ fn fits(op: Operation) -> bool
 {
     let object = op.object as usize;
     let responsible = op.responsible as usize;
-    let ended = op.ended as usize;
-    (object < Book::OBJECTS) & ((responsible < Book::TRANSACTIONS) & (ended < 512))
+    (object < Book::OBJECTS) & ((responsible < Book::TRANSACTIONS) & (op.ended < 512))
 }
 
 // The number that stands for an operation.
@@ -78,24 +77,18 @@ fn cell_of(op: Operation) -> u32
     requires { fits op ≡ true }
     ensures { op_in result ≡ op }
 {
-    let mark = op.mark;
-    let fate = op.fate;
-    let m = mark_code(mark);
-    let f = fate_code(fate);
-    let a = op.object as u32;
-    let b = op.responsible as u32;
-    let e = op.ended as u32;
-    a + 32 * m + 64 * f + 256 * b + 16384 * e
+    op.object as u32
+        + 32 * mark_code(op.mark)
+        + 64 * fate_code(op.fate)
+        + 256 * op.responsible as u32
+        + 16384 * op.ended as u32
 }
 
 // How many operations were accepted: of a count that no book reaches, as many as there is room for.
 pub fn size(n: usize) -> usize
     ensures { result ≡ min n most_operations }
 {
-    if n < Operation::MOST {
-        return n;
-    }
-    Operation::MOST
+    n.min(Operation::MOST)
 }
 
 // One operation more, if there is room for it; how many there are then.
@@ -120,8 +113,7 @@ pub fn given(ops: &mut [u32; Operation::MOST], n: usize, q: usize, receiver: u16
     if to < Book::TRANSACTIONS {
         if q < size(n) {
             let op = op_in(ops[q]);
-            let after = op.given_to(receiver);
-            ops[q] = cell_of(after);
+            ops[q] = cell_of(op.given_to(receiver));
         }
     }
 }
@@ -133,60 +125,54 @@ pub fn ended_one(ops: &mut [u32; Operation::MOST], n: usize, q: usize, fate: Fat
     let all = size(n);
     if q < all {
         let op = op_in(ops[q]);
-        let after = op.ended_alone(fate, all as u16);
-        ops[q] = cell_of(after);
+        ops[q] = cell_of(op.ended_alone(fate, all as u16));
     }
 }
 
-// The next active operation that t is responsible for, among those from one number up to another; the latter if there is none. Few are t's,
-// so that is looked at first.
-fn next_held(ops: &[u32; Operation::MOST], from: usize, to: usize, t: usize) -> usize
-    requires { (from ≤ to) × (to ≤ most_operations) }
-    ensures { Next (held_in ops.now t) from to result }
+// The next operation that passes a test, among those from one number up to another; the latter if there is none.
+fn next<F: Fn(Operation) -> bool>(
+    ops: &[u32; Operation::MOST],
+    from: usize,
+    to: usize,
+    passes: F,
+) -> usize
+    requires within { (from ≤ to) × (to ≤ most_operations) }
+    requires callable { F.IsAlwaysCallable passes }
+    ensures { (is : Operation → Bool) → ((op : Operation) (b : Bool) → fits op ≡ true → F.post passes op b → b ≡ is op) → Next (found_in ops.now is) from to result }
 {
-    let mut i = from;
-    while i < to {
-        let op = op_in(ops[i]);
-        let b = op.responsible as usize;
-        if b == t {
-            if op.held_by(t) {
-                return i;
-            }
+    for i in from..to {
+        if passes(op_in(ops[i])) {
+            return i;
         }
-        i += 1;
     }
     to
 }
 
-// What becomes of an operation: it ends in a fate, when so many operations were accepted, or another answers for it.
-#[derive(Clone, Copy)]
-enum Becomes {
-    Ended(Fate, u16),
-    Passed(u16),
+// The next active operation that t is responsible for.
+fn next_held(ops: &[u32; Operation::MOST], from: usize, to: usize, t: usize) -> usize
+    requires { (from ≤ to) × (to ≤ most_operations) }
+    ensures { Next (held_in ops.now t) from to result }
+{
+    next(ops, from, to, |op| op.held_by(t))
 }
 
-impl Becomes {
-    fn of(self, op: Operation) -> Operation
-        ensures { result ≡ becomes self op }
-    {
-        match self {
-            Becomes::Ended(fate, accepted) => op.ended_as(fate, accepted),
-            Becomes::Passed(receiver) => op.passed_to(receiver),
-        }
-    }
-}
-
-// That becomes of the active operations that t is responsible for, and of no others.
-fn rewritten(ops: &mut [u32; Operation::MOST], n: usize, t: usize, how: Becomes)
-    requires { keeps_fit how }
-    ensures { ops_in ops.new n ≡ rewritten (all_held_by t) (becomes how) (ops_in ops.old n) }
+// Each active operation that t is responsible for becomes what `how` makes of it, and no other changes. Here and in `dirty` the loop goes from one that is found to the
+// next, as `next` does not touch what lies between; a count over all numbers with a test in it is no plainer.
+fn rewritten<F: Fn(Operation) -> Operation>(
+    ops: &mut [u32; Operation::MOST],
+    n: usize,
+    t: usize,
+    how: F,
+)
+    requires callable { F.IsAlwaysCallable how }
+    requires kept { (op made : Operation) → fits op ≡ true → F.post how op made → fits made ≡ true }
+    ensures { (makes : Operation → Operation) → ((op made : Operation) → fits op ≡ true → F.post how op made → made ≡ makes op) → ops_in ops.new n ≡ rewritten (all_held_by t) makes (ops_in ops.old n) }
 {
     let all = size(n);
     let mut i = next_held(ops, 0, all, t);
     while i < all {
         let op = op_in(ops[i]);
-        let after = how.of(op);
-        ops[i] = cell_of(after);
+        ops[i] = cell_of(how(op));
         i = next_held(ops, i + 1, all, t);
     }
 }
@@ -196,7 +182,8 @@ pub fn ended(ops: &mut [u32; Operation::MOST], n: usize, t: usize, fate: Fate)
     ensures { ops_in ops.new n ≡ ended_ops t fate (ops_in ops.old n) }
 {
     let all = size(n);
-    rewritten(ops, n, t, Becomes::Ended(fate, all as u16));
+    let accepted = all as u16;
+    rewritten(ops, n, t, |op| op.ended_as(fate, accepted));
 }
 
 // A receiver answers for all that t is at work on.
@@ -205,7 +192,7 @@ pub fn handed(ops: &mut [u32; Operation::MOST], n: usize, t: usize, receiver: u1
 {
     let to = receiver as usize;
     if to < Book::TRANSACTIONS {
-        rewritten(ops, n, t, Becomes::Passed(receiver));
+        rewritten(ops, n, t, |op| op.passed_to(receiver));
     }
 }
 
@@ -216,32 +203,22 @@ fn dirty_at(ops: &[u32; Operation::MOST], t: usize, j: usize) -> bool
 {
     let q = op_in(ops[j]);
     if q.read_by(t) {
-        let mut i: usize = 0;
-        while i < j {
+        for i in 0..j {
             let p = op_in(ops[i]);
             if p.dirties(t, q, j) {
                 return true;
             }
-            i += 1;
         }
     }
     false
 }
 
-// The next read that t answers for, among those from one number up to another; the latter if there is none.
+// The next read that t answers for.
 fn next_read(ops: &[u32; Operation::MOST], from: usize, to: usize, t: usize) -> usize
     requires { (from ≤ to) × (to ≤ most_operations) }
     ensures { Next (read_in ops.now t) from to result }
 {
-    let mut i = from;
-    while i < to {
-        let op = op_in(ops[i]);
-        if op.read_by(t) {
-            return i;
-        }
-        i += 1;
-    }
-    to
+    next(ops, from, to, |op| op.read_by(t))
 }
 
 // Whether a read that t answers for saw a write that is not clean for t.
@@ -279,14 +256,11 @@ pub fn must_wait(
 ) -> bool
     ensures { result ≡ must_wait (ops_in ops.now n) t object mark }
 {
-    let all = size(n);
-    let mut i: usize = 0;
-    while i < all {
+    for i in 0..size(n) {
         let p = op_in(ops[i]);
         if p.awaited_by(t, object, mark) {
             return true;
         }
-        i += 1;
     }
     false
 }
@@ -296,13 +270,9 @@ pub fn ops_of(ops: &[u32; Operation::MOST], n: usize) -> Ops
     ensures { WholeOps (ops_in ops.now n) → result ≡ ops_in ops.now n }
 {
     let accepted = size(n);
-    let none = Operation::none();
-    let mut all = [none; Operation::MOST];
-    let mut i: usize = 0;
-    while i < accepted {
-        let op = op_in(ops[i]);
-        all[i] = op;
-        i += 1;
+    let mut all = [Operation::none(); Operation::MOST];
+    for i in 0..accepted {
+        all[i] = op_in(ops[i]);
     }
     Ops { all, count: n }
 }

@@ -8,8 +8,9 @@ use Rattle.laws.specs.Index.{sum_to}
 use Rattle.tables.specs.Sorts.{saga_of}
 use Rattle.terms.specs.declared.Saga.{Saga}
 use Rattle.tables.specs.declared.Tables.{Tables}
-use Rattle.rules.specs.States.{own}
+use Rattle.rules.specs.States.{is_committed, own}
 use Rattle.rules.specs.declared.Phase.{Phase}
+use Rattle.rules.specs.declared.Phase.TheVariants.{Active}
 use Rattle.rules.specs.declared.State.{State}
 use Rattle.closing.specs.Closing.{active_step, back_step, closing, closing_by, is_listed, next_undo, outstanding, outstanding_by, owed, settled, settled_by, to_undo, undo_step}
 use Rattle.closing.specs.declared.NextStep.TheVariants.{NoStep, ToAbort}
@@ -24,6 +25,15 @@ module _ (n : ℕ) (P : ℕ → Phase) (a : ℕ) (e : a ≡ active_step n P) whe
   pub undo-active : (a ≡ 0 → ⊥) → 1 + sum_to (n - 1) (owed n P) ≡ to_undo n P
   unfolding to_undo
   undo-active h = rw (← e, ne_eqb a 0 h)
+
+-- ---- what an active saga owes: 1 if its last step is committed, otherwise 1 and what its steps owe
+
+module _ (n : ℕ) (P : ℕ → Phase) (a : P 0 ≡ Active) where
+  pub owed-ready : is_committed (P n) ≡ true → 1 ≡ outstanding_by (P 0) n P
+  owed-ready e = rw (a, e)
+
+  pub owed-active : is_committed (P n) ≡ false → 1 + to_undo n P ≡ outstanding_by (P 0) n P
+  owed-active e = rw (a, e)
 
 -- ---- the closing step of an aborted saga
 

@@ -1,5 +1,5 @@
 -- What ties can never bar: the commit of an active undo, and that of S once its last step is committed.
-use Rattle.std.specs.Prelude.{ℕ, ◌≡◌, true, false, List}
+use Rattle.std.specs.Prelude.{ℕ, ◌≡◌, true, false, List, Ok}
 use Rattle.terms.specs.declared.Event.{Event}
 use Rattle.terms.specs.declared.Event.TheVariants.{Commit}
 use Rattle.terms.specs.declared.Verdict.TheVariants.{Accepted}
@@ -9,7 +9,6 @@ use Rattle.tables.specs.Reading.{tables_by}
 use Rattle.tables.specs.Sorts.{is_saga, sort_of}
 use Rattle.tables.specs.declared.Circles.{Circles}
 use Rattle.tables.specs.declared.Tables.{Tables}
-use Rattle.tables.specs.declared.TablesAnswer.TheVariants.{Read}
 use Rattle.rules.specs.Rules.{active_undo}
 use Rattle.judge.specs.Judge.{judged}
 use Rattle.rules.specs.Rules.{commit_barred}
@@ -29,5 +28,5 @@ pub record Commits (tables : Tables) (es : List Event) : Type 0 where
 
 -- for all tables that reading accepts, and whatever the events
 abbrev pub AlwaysCommits : Type 0
-AlwaysCommits = (circles : Circles) (ed : Edition) (s : List ℕ) (at : ℕ) → (tables_by circles ed s).answer ≡ Read at
+AlwaysCommits = (circles : Circles) (ed : Edition) (s : List ℕ) (at : ℕ) → (tables_by circles ed s).answer ≡ Ok at
     → (es : List Event) → Commits (tables_by circles ed s).tables es

@@ -1,5 +1,5 @@
 -- Demand 3, for the saga of index i: n steps, first number f.
-use Rattle.std.specs.Prelude.{ℕ, zero, suc, ◌+◌, ◌*◌, ◌≤◌, ◌<◌, ◌≡◌, ◌≢◌, ◌↔◌, ◌⊎◌, Bool, true, cond, not, ◌&&◌, List, [], ◌∷◌, ◌++◌, ltb, leb}
+use Rattle.std.specs.Prelude.{ℕ, zero, suc, ◌+◌, ◌*◌, ◌≤◌, ◌<◌, ◌≡◌, ◌≢◌, ◌↔◌, ◌⊎◌, Bool, true, cond, not, ◌&&◌, List, [], ◌∷◌, ◌++◌, ltb, leb, Ok}
 use Rattle.std.proofs.Math.Option.{some}
 use Rattle.terms.specs.declared.Verdict.TheVariants.{Accepted}
 use Rattle.number.specs.declared.Edition.{Edition}
@@ -8,7 +8,6 @@ use Rattle.tables.specs.Sorts.{first_of, steps_of}
 use Rattle.tables.specs.Reading.{tables_by}
 use Rattle.tables.specs.declared.Circles.{Circles}
 use Rattle.tables.specs.declared.Tables.{Tables}
-use Rattle.tables.specs.declared.TablesAnswer.TheVariants.{Read}
 use Rattle.rules.specs.declared.Phase.TheVariants.{Idle}
 use Rattle.terms.specs.declared.Event.{Event}
 use Rattle.terms.specs.declared.Event.TheVariants.{Begin, Commit, Abort, Operation as Invoke, Delegate, CommitOne, AbortOne, Spawn}
@@ -114,5 +113,5 @@ Demand3 = (tables : Tables) → Well tables → (i : ℕ) → i < tables.sagas �
 
 -- so for all tables that reading accepts, circles permitted or not
 abbrev pub Demand3Read : Type 0
-Demand3Read = (circles : Circles) (ed : Edition) (s : List ℕ) (at : ℕ) → (tables_by circles ed s).answer ≡ Read at
+Demand3Read = (circles : Circles) (ed : Edition) (s : List ℕ) (at : ℕ) → (tables_by circles ed s).answer ≡ Ok at
     → (i : ℕ) → i < (tables_by circles ed s).tables.sagas → Demand (tables_by circles ed s).tables i

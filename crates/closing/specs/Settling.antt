@@ -1,6 +1,6 @@
 -- What a manager asks: taking the closing steps of a begun saga settles it, in exactly as many steps as the number says; and doing so for
 -- all begun sagas in rising order settles them all.
-use Rattle.std.specs.Prelude.{ℕ, zero, suc, ◌+◌, ◌≤◌, ◌<◌, ◌≡◌, ◌≢◌, ◌⊎◌, true, List, [], ◌∷◌, ◌++◌, length}
+use Rattle.std.specs.Prelude.{ℕ, zero, suc, ◌+◌, ◌≤◌, ◌<◌, ◌≡◌, ◌≢◌, ◌⊎◌, true, List, [], ◌∷◌, ◌++◌, length, Ok}
 use Rattle.std.proofs.Math.Option.{Option, none, some}
 use Rattle.number.specs.declared.Edition.{Edition}
 use Rattle.tables.specs.Accepted.{Well}
@@ -8,7 +8,6 @@ use Rattle.tables.specs.Sorts.{first_of, steps_of}
 use Rattle.tables.specs.Reading.{tables_by}
 use Rattle.tables.specs.declared.Circles.{Circles}
 use Rattle.tables.specs.declared.Tables.{Tables}
-use Rattle.tables.specs.declared.TablesAnswer.TheVariants.{Read}
 use Rattle.rules.specs.declared.Phase.TheVariants.{Aborted, Committed, Idle}
 use Rattle.terms.specs.declared.Event.{Event}
 use Rattle.rules.specs.declared.State.{State}
@@ -65,7 +64,7 @@ ClosingSettles = (tables : Tables) → Well tables → (es : List Event) → Set
 
 -- so for all tables that reading accepts, circles permitted or not
 abbrev pub ClosingSettlesRead : Type 0
-ClosingSettlesRead = (circles : Circles) (ed : Edition) (s : List ℕ) (at : ℕ) → (tables_by circles ed s).answer ≡ Read at
+ClosingSettlesRead = (circles : Circles) (ed : Edition) (s : List ℕ) (at : ℕ) → (tables_by circles ed s).answer ≡ Ok at
     → (es : List Event) → Settles (tables_by circles ed s).tables es
 
 -- ---- what a settled saga has run

@@ -5,13 +5,13 @@ ghost use Rattle.std.specs.Prelude.{◌≡◌, not, ◌&&◌, ◌-◌, eqb};
 ghost use Rattle.laws.specs.Index.{highest, sum_to};
 ghost use Rattle.rules.specs.States.{is_committed, own};
 ghost use Rattle.rules.specs.Rules.{undone};
-ghost use Rattle.closing.specs.Closing.{active_step, owed_by, owed, to_undo, next_undo, undo_step, back_step, is_listed, outstanding, closing, settled};
+ghost use Rattle.closing.specs.Closing.{active_step, owed_by, owed, to_undo, next_undo, undo_step, back_step, is_listed, outstanding, outstanding_by, closing, settled};
 
-use rules::{Phase, State, Transaction};
+use rules::{Phase, Standing, State};
 use tables::Tables;
-use terms::Book;
 
-// The closing step of a saga, with its transaction.
+// The closing step of a saga, with its transaction. That there is none is one of the four: the theorem `Demand3` says by `none_at_zero` that a saga which owes nothing has
+// `NoStep`, and the board, the listing and the mending each have a word of their own for it beside the three.
 #[derive(Clone, Copy)]
 pub enum NextStep {
     NoStep,
@@ -27,17 +27,20 @@ fn is_listed(tables: Tables, saga: usize) -> bool
     saga < tables.saga_count()
 }
 
+// ---- what one saga owes, which starts at `first` and has n steps; its transactions stand by value or in lent numbers
+
+// Steps count from 1, and 0 stands for none, as in the definitions `active_step` and `next_undo`, which `to_undo`, `back_step` and `settled_by` test for 0: with an Option
+// here each of those clauses would have to turn it into that number first.
+
 // The active step, 0 if there is none.
-fn active_step(transactions: [Transaction; Book::TRANSACTIONS], first: u16, n: u16) -> u16
-    ensures { result ≡ active_step n (own transactions first) }
+fn active_step<S: Standing>(stand: &S, first: u16, n: u16) -> u16
+    ensures { result ≡ active_step n (own (S.transactions stand.now) first) }
 {
-    let mut i = n;
-    while 0 < i {
-        let step = rules::own(transactions, first, i as u32);
+    for i in (1..=n).rev() {
+        let step = rules::own(stand, first, i as u32);
         if step.is_active() {
             return i;
         }
-        i -= 1;
     }
     0
 }
@@ -55,80 +58,94 @@ pub fn owed_by(undo: Phase) -> usize
 }
 
 // What step i owes.
-fn owed(transactions: [Transaction; Book::TRANSACTIONS], first: u16, n: u16, i: u16) -> usize
-    ensures { result ≡ owed n (own transactions first) i }
+fn owed<S: Standing>(stand: &S, first: u16, n: u16, i: u16) -> usize
+    ensures { result ≡ owed n (own (S.transactions stand.now) first) i }
 {
-    let step = rules::own(transactions, first, i as u32);
+    let step = rules::own(stand, first, i as u32);
     if step.is_committed() {
         let back = n as u32 + i as u32;
-        let undo = rules::own(transactions, first, back);
+        let undo = rules::own(stand, first, back);
         return owed_by(undo);
     }
     0
 }
 
 // What the steps that have an undo owe together.
-fn owed_by_steps(transactions: [Transaction; Book::TRANSACTIONS], first: u16, n: u16) -> usize
-    ensures { result ≡ sum_to (n - 1) (owed n (own transactions first)) }
+fn owed_by_steps<S: Standing>(stand: &S, first: u16, n: u16) -> usize
+    ensures { result ≡ sum_to (n - 1) (owed n (own (S.transactions stand.now) first)) }
 {
     let mut sum: usize = 0;
-    let mut i: u16 = 1;
-    while i < n {
-        let more = owed(transactions, first, n, i);
-        sum += more;
-        i += 1;
+    for i in 1..n {
+        sum += owed(stand, first, n, i);
     }
     sum
 }
 
 // 1 if a step is active, plus what the committed steps owe.
-fn to_undo(transactions: [Transaction; Book::TRANSACTIONS], first: u16, n: u16) -> usize
-    ensures { result ≡ to_undo n (own transactions first) }
+fn to_undo<S: Standing>(stand: &S, first: u16, n: u16) -> usize
+    ensures { result ≡ to_undo n (own (S.transactions stand.now) first) }
 {
-    let active = active_step(transactions, first, n);
-    let sum = owed_by_steps(transactions, first, n);
+    let active = active_step(stand, first, n);
+    let sum = owed_by_steps(stand, first, n);
     if active == 0 {
         return sum;
     }
     1 + sum
 }
 
-// The highest committed step whose undo is not committed, 0 if there is none.
-fn next_undo(transactions: [Transaction; Book::TRANSACTIONS], first: u16, n: u16) -> u16
-    ensures { result ≡ next_undo n (own transactions first) }
+// How many closing steps the saga owes.
+pub fn owed_in<S: Standing>(stand: &S, first: u16, n: u16) -> usize
+    ensures { result ≡ outstanding_by (own (S.transactions stand.now) first 0) n (own (S.transactions stand.now) first) }
 {
-    if n == 0 {
-        return 0;
+    let phase = rules::own(stand, first, 0);
+    match phase {
+        Phase::Idle => 0,
+        Phase::Active => {
+            let last = rules::own(stand, first, n as u32);
+            if last.is_committed() {
+                return 1;
+            }
+            let rest = to_undo(stand, first, n);
+            1 + rest
+        }
+        Phase::Committed => 0,
+        Phase::Aborted => to_undo(stand, first, n),
     }
-    let mut i = n - 1;
-    while 0 < i {
-        let step = rules::own(transactions, first, i as u32);
+}
+
+// ---- the next undo, and whether any is left
+
+// The highest committed step whose undo is not committed, 0 if there is none.
+fn next_undo<S: Standing>(stand: &S, first: u16, n: u16) -> u16
+    ensures { result ≡ next_undo n (own (S.transactions stand.now) first) }
+{
+    for i in (1..n).rev() {
+        let step = rules::own(stand, first, i as u32);
         let back = n as u32 + i as u32;
-        let undo = rules::own(transactions, first, back);
+        let undo = rules::own(stand, first, back);
         if step.is_committed() & !undo.is_committed() {
             return i;
         }
-        i -= 1;
     }
     0
 }
 
 // Whether every committed step is undone.
-fn all_undone(transactions: [Transaction; Book::TRANSACTIONS], first: u16, n: u16) -> bool
-    ensures { result ≡ eqb (highest n (λ i. is_committed (own transactions first i) && not (undone n (own transactions first) i))) 0 }
+fn all_undone<S: Standing>(stand: &S, first: u16, n: u16) -> bool
+    ensures { result ≡ eqb (highest n (λ i. is_committed (own (S.transactions stand.now) first i) && not (undone n (own (S.transactions stand.now) first) i))) 0 }
 {
-    let mut i = n;
-    while 0 < i {
-        let step = rules::own(transactions, first, i as u32);
+    for i in (1..=n).rev() {
+        let step = rules::own(stand, first, i as u32);
         let back = n as u32 + i as u32;
-        let undo = rules::own(transactions, first, back);
+        let undo = rules::own(stand, first, back);
         if step.is_committed() & !((i < n) & undo.is_committed()) {
             return false;
         }
-        i -= 1;
     }
     true
 }
+
+// ---- the saga of an index
 
 // How many closing steps the saga of an index still owes; an index that is no saga's owes nothing.
 pub fn outstanding(tables: Tables, state: State, saga: usize) -> usize
@@ -137,24 +154,8 @@ pub fn outstanding(tables: Tables, state: State, saga: usize) -> usize
     if !is_listed(tables, saga) {
         return 0;
     }
-    let transactions = state.transactions;
     let s = tables::saga_at(tables, saga);
-    let first = s.first;
-    let n = s.steps;
-    let phase = rules::own(transactions, first, 0);
-    match phase {
-        Phase::Idle => 0,
-        Phase::Active => {
-            let last = rules::own(transactions, first, n as u32);
-            if last.is_committed() {
-                return 1;
-            }
-            let rest = to_undo(transactions, first, n);
-            1 + rest
-        }
-        Phase::Committed => 0,
-        Phase::Aborted => to_undo(transactions, first, n),
-    }
+    owed_in(&state.transactions, s.first, s.steps)
 }
 
 // Begin or commit an undo, by its phase.
@@ -170,20 +171,20 @@ fn undo_step(undo: Phase, t: usize) -> NextStep
 }
 
 // The closing step of an aborted saga: abort the active step, else go on with the next undo.
-fn back_step(transactions: [Transaction; Book::TRANSACTIONS], first: u16, n: u16) -> NextStep
-    ensures { result ≡ back_step first n (own transactions first) (active_step n (own transactions first)) (next_undo n (own transactions first)) }
+fn back_step<S: Standing>(stand: &S, first: u16, n: u16) -> NextStep
+    ensures { result ≡ back_step first n (own (S.transactions stand.now) first) (active_step n (own (S.transactions stand.now) first)) (next_undo n (own (S.transactions stand.now) first)) }
 {
-    let active = active_step(transactions, first, n);
+    let active = active_step(stand, first, n);
     if active != 0 {
         let t = first as usize + active as usize;
         return NextStep::ToAbort(t);
     }
-    let next = next_undo(transactions, first, n);
+    let next = next_undo(stand, first, n);
     if next == 0 {
         return NextStep::NoStep;
     }
     let back = n as u32 + next as u32;
-    let undo = rules::own(transactions, first, back);
+    let undo = rules::own(stand, first, back);
     let t = first as usize + back as usize;
     undo_step(undo, t)
 }
@@ -195,15 +196,14 @@ pub fn closing(tables: Tables, state: State, saga: usize) -> NextStep
     if !is_listed(tables, saga) {
         return NextStep::NoStep;
     }
-    let transactions = state.transactions;
     let s = tables::saga_at(tables, saga);
     let first = s.first;
     let n = s.steps;
-    let phase = rules::own(transactions, first, 0);
+    let phase = rules::own(&state.transactions, first, 0);
     match phase {
         Phase::Idle => NextStep::NoStep,
         Phase::Active => {
-            let last = rules::own(transactions, first, n as u32);
+            let last = rules::own(&state.transactions, first, n as u32);
             let t = first as usize;
             if last.is_committed() {
                 return NextStep::ToCommit(t);
@@ -211,7 +211,7 @@ pub fn closing(tables: Tables, state: State, saga: usize) -> NextStep
             NextStep::ToAbort(t)
         }
         Phase::Committed => NextStep::NoStep,
-        Phase::Aborted => back_step(transactions, first, n),
+        Phase::Aborted => back_step(&state.transactions, first, n),
     }
 }
 
@@ -222,12 +222,11 @@ pub fn settled(tables: Tables, state: State, saga: usize) -> bool
     if !is_listed(tables, saga) {
         return false;
     }
-    let transactions = state.transactions;
     let s = tables::saga_at(tables, saga);
     let first = s.first;
     let n = s.steps;
-    let phase = rules::own(transactions, first, 0);
-    let active = active_step(transactions, first, n);
-    let undone = all_undone(transactions, first, n);
+    let phase = rules::own(&state.transactions, first, 0);
+    let active = active_step(&state.transactions, first, n);
+    let undone = all_undone(&state.transactions, first, n);
     phase.is_committed() | (phase.is_aborted() & ((active == 0) & undone))
 }

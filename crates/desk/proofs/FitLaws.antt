@@ -21,10 +21,9 @@ use Rattle.cells.specs.Cells.{fits}
 use Rattle.cells.proofs.CellLaws.{parts-fit}
 use Rattle.tables.specs.declared.Tables.{Tables}
 use Rattle.rules.specs.Lent.{parent_fits}
-use Rattle.rules.specs.States.{empty_state, parent_of}
+use Rattle.rules.specs.States.{Parent, empty_state, parent_of}
 use Rattle.rules.specs.declared.State.{State}
-use Rattle.rules.specs.declared.Parent.{Parent}
-use Rattle.rules.specs.declared.Parent.TheVariants.{Nobody, Under}
+use Rattle.std.specs.Prelude.{Some, None}
 use Rattle.rules.proofs.PhaseLaws.{code}
 use Rattle.rules.proofs.StateLaws.{past-idle}
 use Rattle.judge.proofs.ClerkLaws.{by-clerk}
@@ -117,8 +116,8 @@ pub reached-parents : (tables : Tables) (es : List Event) (t : ℕ) → parent_f
 reached-parents tables es t = go (parent_of (reached tables es).transactions t) refl
   where
     go : (p : Parent) → parent_of (reached tables es).transactions t ≡ p → parent_fits p ≡ true
-    go Nobody e = refl
-    go (Under m) e =
+    go None e = refl
+    go (Some m) e =
         lt-ltb m most_transactions
         (lt-or m most_transactions (λ l. l)
         (λ l. absurd (omega (arith, ((kin tables es).begun t m e).1, ap code (past-idle (reached tables es).transactions m (omega (arith, (lasting tables es).full)))))))

@@ -6,6 +6,7 @@ pub mod OriginLaws
 pub mod StandLaws
 pub mod QuestionLaws
 pub mod BehindLaws
+pub mod SortLaws
 pub mod NamesLaws
 pub mod TakingReadsHolds
 pub mod NextAcceptedHolds

@@ -26,22 +26,21 @@ use Rattle.closing.specs.declared.NextStep.{NextStep}
 use Rattle.closing.specs.declared.NextStep.TheVariants.{NoStep, ToAbort, ToBegin, ToCommit}
 use Rattle.closing.proofs.Demand3Holds.{demand3}
 use Rattle.onward.specs.declared.Judgement.{Judgement}
-use Rattle.desk.specs.Desk.{Desk, DeskStands, asked_after, asked_by, named_by, taken_after, taken_by, then_by}
+use Rattle.desk.specs.Desk.{Desk, DeskStands, asked_after, asked_by, named_by, says, taken_after, taken_by, then_by}
 use Rattle.desk.specs.Promises.{NextAccepted, NextTaken, next_named}
 use Rattle.desk.specs.Questions.{saga_numbers, saga_numbers_by}
-use Rattle.desk.specs.declared.Named.TheVariants.{Says}
 
 -- the numbers of a step name its event
 no-event {ℓ} : {A : Type ℓ} {e : Event} → none ≡ some e → A
 no-event q = let z : ◌≡◌ {A = ℕ} 0 1 = cc in absurd (omega arith)
 
 by-step : (ed : Edition) (x : NextStep) (e : Event) (owed done : ℕ) → event_of x ≡ some e
-    → named_by ed (get_or (saga_numbers_by x owed done) 0 0) (get_or (saga_numbers_by x owed done) 1 0) 0 0 0 ≡ Says e 0
+    → named_by ed (get_or (saga_numbers_by x owed done) 0 0) (get_or (saga_numbers_by x owed done) 1 0) 0 0 0 ≡ says e 0
 unfolding named_by
 by-step ed NoStep e owed done q = no-event q
-by-step ed (ToBegin t) e owed done q = let same : Begin t ≡ e = cc in ap (λ (y : Event). Says y 0) same
-by-step ed (ToCommit t) e owed done q = let same : Commit t ≡ e = cc in ap (λ (y : Event). Says y 0) same
-by-step ed (ToAbort t) e owed done q = let same : Abort t ≡ e = cc in ap (λ (y : Event). Says y 0) same
+by-step ed (ToBegin t) e owed done q = let same : Begin t ≡ e = cc in ap (λ (y : Event). says y 0) same
+by-step ed (ToCommit t) e owed done q = let same : Commit t ≡ e = cc in ap (λ (y : Event). says y 0) same
+by-step ed (ToAbort t) e owed done q = let same : Abort t ≡ e = cc in ap (λ (y : Event). says y 0) same
 
 module _ (j : Judgement) (d : Desk) (st : DeskStands j d) (ok : j.answer ≡ Accepted) (i : ℕ) (owes : 0 < outstanding j.tables j.state i) where
   owes_nothing : j.tables.sagas ≤ i → outstanding j.tables j.state i ≡ 0
@@ -61,20 +60,20 @@ module _ (j : Judgement) (d : Desk) (st : DeskStands j d) (ok : j.answer ≡ Acc
       subst⁻¹ (λ (s : State). Closes j.tables i s s) led
       (subst (λ (s : State). Closes j.tables i (reached j.tables es) s) (run_none j.tables (reached j.tables es)) there)
 
-  named-is : next_named j i ≡ Says closes.event 0
+  named-is : next_named j i ≡ says closes.event 0
   unfolding saga_numbers
   named-is =
       rw (lt-ltb i (saga_count j.tables) (omega (arith, listed, st.well.listed)))
       (by-step j.edition (closing j.tables j.state i) closes.event (outstanding j.tables j.state i) (one (settled j.tables j.state i)) closes.named)
 
-  asked_is : asked_by j (Says closes.event 0) ≡ 0
+  asked_is : asked_by j (says closes.event 0) ≡ 0
   unfolding asked_by
-  asked_is = ap (λ (v : Verdict). asked_after v j (Says closes.event 0)) ok ∙ ap verdict_number closes.accepted
+  asked_is = ap (λ (v : Verdict). asked_after v j (says closes.event 0)) ok ∙ ap verdict_number closes.accepted
 
-  taken_is : taken_by j (Says closes.event 0) ≡ then_by Accepted j (judged j.tables j.state closes.event).state 0
+  taken_is : taken_by j (says closes.event 0) ≡ then_by Accepted j (judged j.tables j.state closes.event).state 0
   unfolding taken_by
   taken_is =
-      ap (λ (v : Verdict). taken_after v j (Says closes.event 0)) ok
+      ap (λ (v : Verdict). taken_after v j (says closes.event 0)) ok
       ∙ ap (λ (v : Verdict). then_by v j (judged j.tables j.state closes.event).state 0) closes.accepted
 
   taken : NextTaken j i

@@ -1,4 +1,5 @@
 -- What every reading comes to: well-formed tables, and a state that events lead to.
+use Rattle.std.specs.Prelude.{Ok}
 use Prim.Native.Nat.{ℕ, ◌≤◌, ◌<◌}
 use native.Mathlib.Omega.{arith}
 use mathlib.Core.Path.{◌≡◌, refl, sym, ap, ◌∙◌, subst, subst⁻¹}
@@ -10,6 +11,7 @@ use Rattle.terms.specs.Limits.{most_bytes}
 use Rattle.terms.specs.declared.Event.{Event}
 use Rattle.terms.specs.declared.Refusal.{Refusal}
 use Rattle.terms.specs.declared.Refusal.TheVariants.{TooLong}
+use Rattle.number.specs.Number.{fault}
 use Rattle.number.specs.declared.Edition.{Edition}
 use Rattle.items.specs.Items.{items_after}
 use Rattle.items.specs.declared.Item.{Item}
@@ -18,7 +20,6 @@ use Rattle.tables.specs.Reading.{edition_of, empty_tables, tables_by}
 use Rattle.tables.specs.Sorts.{owned_by}
 use Rattle.tables.specs.declared.Circles.{Circles}
 use Rattle.tables.specs.declared.Tables.{Tables}
-use Rattle.tables.specs.declared.TablesAnswer.TheVariants.{Read, Refused as RefusedTables}
 use Rattle.tables.proofs.AcceptedWellHolds.{accepted-well}
 use Rattle.histories.specs.Histories.{reached}
 use Rattle.histories.proofs.RunLaws.{run_none}
@@ -58,8 +59,8 @@ on-items ed tables items well = (well, (events_in items, refl))
 
 module _ (circles : Circles) (ed : Edition) (s : List ℕ) where
   -- by what its tables come to
-  by-tables : (A : Type 0) → (most_bytes < length s → A) → ((at : ℕ) → length s ≤ most_bytes → (tables_by circles ed s).answer ≡ Read at → A)
-      → ((r : Refusal) (p : ℕ) → length s ≤ most_bytes → (tables_by circles ed s).answer ≡ RefusedTables r p → A) → A
+  by-tables : (A : Type 0) → (most_bytes < length s → A) → ((at : ℕ) → length s ≤ most_bytes → (tables_by circles ed s).answer ≡ Ok at → A)
+      → ((r : Refusal) (p : ℕ) → length s ≤ most_bytes → (tables_by circles ed s).answer ≡ fault r p → A) → A
   by-tables A long read refused = lt-or most_bytes (length s) long (λ small. answer-cases (tables_by circles ed s).answer (λ at e. read at small e) (λ r p e. refused r p small e))
 
   on-origin : Origin (judgement_by circles ed s)
@@ -69,7 +70,7 @@ module _ (circles : Circles) (ed : Edition) (s : List ℕ) where
       (λ at small e. subst⁻¹ Origin (reading-on-holds.reads circles ed s at small e).judgement (there at e))
       (λ r p small e. subst⁻¹ Origin (reading-on-holds.reads_nothing circles ed s r p small e).0 (nothing-origin ed r p))
     where
-      there : (at : ℕ) → (tables_by circles ed s).answer ≡ Read at → Origin (judgement_on ed (tables_by circles ed s).tables (items_after ed s at))
+      there : (at : ℕ) → (tables_by circles ed s).answer ≡ Ok at → Origin (judgement_on ed (tables_by circles ed s).tables (items_after ed s at))
       there at e = on-items ed (tables_by circles ed s).tables (items_after ed s at) (accepted-well circles ed s at e)
 
   -- the records beside a reading change neither

@@ -9,7 +9,8 @@ use borrow.Author.Tests.{lt-ltb, le-ltb}
 use Rattle.laws.specs.Index.{count_below, first_below, one}
 use Rattle.terms.specs.Limits.{most_transactions}
 use Rattle.terms.specs.Refusals.{verdict_number}
-use Rattle.terms.specs.declared.Refusal.TheVariants.{TooLong, Torn, BadNumber, BadEdition, BadCount, BadDependency, BadCode, NotInTables, NeverDoes, NotIdle, NotActive, NotResponsible, SagaRule, DependencyRule, DirtyRead, OnRing, MustWait, Full, NoRoom, AlreadyEnded, NeverMoves, UndoOnRing}
+use Rattle.terms.specs.Refusals.{refusal_in}
+use Rattle.terms.proofs.RefusalLaws.{number-names}
 use Rattle.terms.specs.declared.Verdict.{Verdict}
 use Rattle.terms.specs.declared.Verdict.TheVariants.{Accepted, Refused}
 use Rattle.number.specs.declared.Edition.{Edition}
@@ -38,36 +39,15 @@ use Rattle.report.specs.Report.{active_in, active_set, report_of}
 use Rattle.onward.specs.declared.Judgement.{Judgement}
 use Rattle.listing.specs.Lines.{later_line, line_count, line_of, place_answer, place_room}
 use Rattle.desk.specs.Desk.{DeskStands, desk_of, edition_in}
-use Rattle.desk.specs.Questions.{operation_numbers, operation_numbers_of, outline_in, phase_number, saga_numbers, saga_numbers_by, tally_of, verdict_in}
+use Rattle.desk.specs.Questions.{operation_numbers, operation_numbers_of, outline_in, phase_number, saga_numbers, saga_numbers_by, tally_of, verdict_in, verdict_of}
 use Rattle.desk.proofs.StandLaws.{accepted-is, edition-is, ended_is, is_whole, left_is, place_is, plain-is, refused-is, sagas-is, state-is}
 
 -- ---- a verdict is told by its number
 
 verdict-back : (v : Verdict) → verdict_in (verdict_number v) ≡ v
-unfolding verdict_in
+unfolding verdict_in refusal_in
 verdict-back Accepted = refl
-verdict-back (Refused TooLong) = refl
-verdict-back (Refused Torn) = refl
-verdict-back (Refused BadNumber) = refl
-verdict-back (Refused BadEdition) = refl
-verdict-back (Refused BadCount) = refl
-verdict-back (Refused BadDependency) = refl
-verdict-back (Refused BadCode) = refl
-verdict-back (Refused NotInTables) = refl
-verdict-back (Refused NeverDoes) = refl
-verdict-back (Refused NotIdle) = refl
-verdict-back (Refused NotActive) = refl
-verdict-back (Refused NotResponsible) = refl
-verdict-back (Refused SagaRule) = refl
-verdict-back (Refused DependencyRule) = refl
-verdict-back (Refused DirtyRead) = refl
-verdict-back (Refused OnRing) = refl
-verdict-back (Refused MustWait) = refl
-verdict-back (Refused Full) = refl
-verdict-back (Refused NoRoom) = refl
-verdict-back (Refused AlreadyEnded) = refl
-verdict-back (Refused NeverMoves) = refl
-verdict-back (Refused UndoOnRing) = refl
+verdict-back (Refused r) = ap verdict_of (number-names r)
 
 -- ---- tables without objects and dependencies: sagas owe the same, and the lines are the same
 

@@ -36,8 +36,7 @@ use Rattle.left.proofs.KeptHolds.{kept}
 use Rattle.onward.specs.Onward.{noted_at}
 use Rattle.onward.specs.declared.Judgement.{Judgement}
 use Rattle.book.proofs.ReadLaws.{verdict-cases}
-use Rattle.desk.specs.Desk.{DeskStands, asked_after, asked_by, counts_by, counts_of, desk_of, edition_in, event_then, more, named_by, named_number, named_then, passed_over, taken_after, taken_by, then_by}
-use Rattle.desk.specs.declared.Named.{Named}
+use Rattle.desk.specs.Desk.{DeskStands, Named, asked_after, asked_by, counts_by, counts_of, desk_of, edition_in, event_then, more, named_by, named_number, named_then, passed_over, taken_after, taken_by, then_by}
 use Rattle.desk.specs.Ways.{judged as judged_in}
 use Rattle.desk.proofs.FitLaws.{reached-few, reached-fits, reached-parents, reached-whole}
 use Rattle.desk.proofs.OriginLaws.{Origin, origin}

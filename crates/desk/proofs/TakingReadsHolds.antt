@@ -28,7 +28,6 @@ use Rattle.items.proofs.ItemLaws.{Goes, goes-inside, item-end}
 use Rattle.tables.specs.Reading.{edition_of, tables_by}
 use Rattle.tables.specs.declared.Circles.{Circles}
 use Rattle.tables.specs.declared.Tables.{Tables}
-use Rattle.tables.specs.declared.TablesAnswer.TheVariants.{Read}
 use Rattle.tables.specs.declared.TablesRead.{TablesRead}
 use Rattle.tables.proofs.BeginningLaws.{tables-extend, tables-place}
 use Rattle.tables.proofs.EditionLaws.{edition-read}
@@ -46,16 +45,17 @@ use Rattle.book.proofs.EventsBackHolds.{events-back}
 use Rattle.book.proofs.LongestLaws.{longest, read_on}
 use Rattle.book.proofs.OpeningLaws.{opening-le}
 use Rattle.book.proofs.ReadLaws.{accepted-edition, accepted-small, accepted-tables, answer-cases, loop-bad, loop-halt, loop-more, not-accepted, verdict-cases}
-use Rattle.onward.specs.Onward.{answer_in, events_in, judgement_by, judgement_on, judgement_to, judgement_up_to, no_by, no_records, noted_at, records_up_to, refused_by, refused_from}
+use Rattle.onward.specs.Onward.{answer_in, events_in, judgement_by, judgement_ends, judgement_on, judgement_to, judgement_up_to, no_by, no_records, noted_at, records_up_to, refused_by, refused_from}
 use Rattle.onward.specs.Promises.{AllEvents}
 use Rattle.onward.specs.declared.Judgement.{Judgement}
 use Rattle.onward.specs.declared.No.{No}
 use Rattle.onward.proofs.ItemCountLaws.{few-items}
-use Rattle.onward.proofs.OnwardLaws.{from-denied, from-ended, from-marked, from_start, from-took, judgement_from, made, noted-none}
+use Rattle.onward.proofs.OnwardLaws.{from-denied, from-ended, from-marked, from_start, from-took, judgement_from, noted-none}
 use Rattle.onward.proofs.ReadingOnHolds.{reading-on-holds}
-use Rattle.desk.specs.Desk.{asked_after, asked_by, more, taken_after, taken_by, then_by}
+use Rattle.desk.specs.Desk.{asked_after, asked_by, more, says, taken_after, taken_by, then_by}
+use Rattle.std.specs.Prelude.{Err, Ok}
+use Rattle.desk.specs.declared.Unnamed.TheVariants.{NoMark}
 use Rattle.desk.specs.Promises.{EventBehind, MarkBehind, ReadsOnBehind, ReadsToBehind, TakingReads, ended_by}
-use Rattle.desk.specs.declared.Named.TheVariants.{Says, NoMark}
 use Rattle.desk.proofs.BehindLaws.{all_end, from-append, longer, refused-append}
 use Rattle.desk.proofs.NamesLaws.{names-fields}
 
@@ -70,9 +70,9 @@ last-refused tables s i e pu end = refl
 
 module _ (ed : Edition) (tables : Tables) (s : State) (w : List ℕ) (n m : ℕ) (few : n + m < most_bytes) (end : ℕ) where
   abbrev from : Judgement
-  from = made ed w Accepted n m 0 tables s
+  from = judgement_ends ed w Accepted n m 0 tables s
 
-  event-then : (e : Event) (pu : ℕ) → judgement_from ed tables s w n m (Takes e pu end ∷ []) ≡ taken_by from (Says e pu)
+  event-then : (e : Event) (pu : ℕ) → judgement_from ed tables s w n m (Takes e pu end ∷ []) ≡ taken_by from (says e pu)
   unfolding taken_by
   event-then e pu =
       let t = (judged tables s e).state in
@@ -81,21 +81,21 @@ module _ (ed : Edition) (tables : Tables) (s : State) (w : List ℕ) (n m : ℕ)
       (λ v.
       from-took ed tables s w n m e pu end [] v
       ∙ from-ended ed tables t noted (n + 1) m
-      ∙ ap (λ (k : ℕ). made ed noted Accepted k m 0 tables t) (one_more n (omega arith))
+      ∙ ap (λ (k : ℕ). judgement_ends ed noted Accepted k m 0 tables t) (one_more n (omega arith))
       ∙ ap (λ (x : Verdict). then_by x from t pu) (sym v))
       (λ r v.
       from-denied ed tables s w n m e pu end [] r v
       ∙ from-ended ed tables t noted n (m + 1)
-      ∙ ap₂ (λ (k : ℕ) (y : State). made ed (noted_at s.ops.count y.ops.count pu w) Accepted n k 0 tables y) (one_more m (omega arith)) (next-no tables s e r v)
-      ∙ ap (λ (y : List ℕ). made ed y Accepted n (more m) 0 tables s) (noted-none s.ops.count pu w)
+      ∙ ap₂ (λ (k : ℕ) (y : State). judgement_ends ed (noted_at s.ops.count y.ops.count pu w) Accepted n k 0 tables y) (one_more m (omega arith)) (next-no tables s e r v)
+      ∙ ap (λ (y : List ℕ). judgement_ends ed y Accepted n (more m) 0 tables s) (noted-none s.ops.count pu w)
       ∙ ap (λ (x : Verdict). then_by x from t pu) (sym v))
 
-  mark-then : judgement_from ed tables s w n m (BadMark end ∷ []) ≡ taken_by from NoMark
+  mark-then : judgement_from ed tables s w n m (BadMark end ∷ []) ≡ taken_by from (Err NoMark)
   unfolding taken_by
   mark-then =
       from-marked ed tables s w n m end []
       ∙ from-ended ed tables s w n (m + 1)
-      ∙ ap (λ (k : ℕ). made ed w Accepted n k 0 tables s) (one_more m (omega arith))
+      ∙ ap (λ (k : ℕ). judgement_ends ed w Accepted n k 0 tables s) (one_more m (omega arith))
 
 -- ---- on past refused events
 
@@ -107,7 +107,7 @@ module _ (circles : Circles) (ed : Edition) (s x : List ℕ) (fits : length (s +
   small = omega (arith, length-append s x)
 
   -- the tables are accepted
-  read-there : (at : ℕ) × ((tables_by circles ed s).answer ≡ Read at)
+  read-there : (at : ℕ) × ((tables_by circles ed s).answer ≡ Ok at)
   read-there =
       answer-cases (tables_by circles ed s).answer (λ at e. (at, e))
       (λ r p e. not-accepted (sym (ap (λ (j : Judgement). j.answer) (reading-on-holds.reads_nothing circles ed s r p small e).0) ∙ whole))
@@ -134,7 +134,7 @@ module _ (circles : Circles) (ed : Edition) (s x : List ℕ) (fits : length (s +
       tables-extend circles ed (s ++ x) read-there.0 (length s) (ap (λ (l : List ℕ). (tables_by circles ed l).answer) same ∙ read-there.1)
       ∙ ap (λ (l : List ℕ). tables_by circles ed l) same
 
-  both_read : (tables_by circles ed (s ++ x)).answer ≡ Read read-there.0
+  both_read : (tables_by circles ed (s ++ x)).answer ≡ Ok read-there.0
   both_read = ap (λ (t : TablesRead). t.answer) both-tables ∙ read-there.1
 
   both-on : judgement_by circles ed (s ++ x) ≡ judgement_on ed (tables_by circles ed s).tables (items_after ed (s ++ x) read-there.0)
@@ -166,7 +166,7 @@ module _ (circles : Circles) (ed : Edition) (s x : List ℕ) (fits : length (s +
         omega (arith, counted, few-items ed s read-there.0, length-append s x, inside.later, inside.ends)
 
     -- reading it ended without a refusal
-    ended : was ≡ made ed was.records Accepted was.events was.refused 0 (tables_by circles ed s).tables was.state
+    ended : was ≡ judgement_ends ed was.records Accepted was.events was.refused 0 (tables_by circles ed s).tables was.state
     unfolding judgement_on
     ended =
         λ i. record {
@@ -180,17 +180,17 @@ module _ (circles : Circles) (ed : Edition) (s x : List ℕ) (fits : length (s +
           records = was.records;
         }
 
-  event-on : (e : Event) (pu : ℕ) → EventBehind ed s x e pu → judgement_by circles ed (s ++ x) ≡ taken_by was (Says e pu)
+  event-on : (e : Event) (pu : ℕ) → EventBehind ed s x e pu → judgement_by circles ed (s ++ x) ≡ taken_by was (says e pu)
   event-on e pu i =
       goes_on (Takes e pu (length (s ++ x))) refl i
       ∙ event-then ed (tables_by circles ed s).tables was.state was.records was.events was.refused (few (Takes e pu (length (s ++ x))) refl i) (length (s ++ x)) e pu
-      ∙ ap (λ (j : Judgement). taken_by j (Says e pu)) (sym (ended (Takes e pu (length (s ++ x))) refl i))
+      ∙ ap (λ (j : Judgement). taken_by j (says e pu)) (sym (ended (Takes e pu (length (s ++ x))) refl i))
 
-  mark_on : MarkBehind ed s x → judgement_by circles ed (s ++ x) ≡ taken_by was NoMark
+  mark_on : MarkBehind ed s x → judgement_by circles ed (s ++ x) ≡ taken_by was (Err NoMark)
   mark_on i =
       goes_on (BadMark (length (s ++ x))) refl i
       ∙ mark-then ed (tables_by circles ed s).tables was.state was.records was.events was.refused (few (BadMark (length (s ++ x))) refl i) (length (s ++ x))
-      ∙ ap (λ (j : Judgement). taken_by j NoMark) (sym (ended (BadMark (length (s ++ x))) refl i))
+      ∙ ap (λ (j : Judgement). taken_by j (Err NoMark)) (sym (ended (BadMark (length (s ++ x))) refl i))
 
   listed-on : (e : Event) (pu : ℕ) → EventBehind ed s x e pu
       → refused_by circles ed (s ++ x) ≡ refused_by circles ed s ++ no_by (judged was.tables was.state e).verdict (was.events + was.refused) []
@@ -206,9 +206,9 @@ module _ (circles : Circles) (ed : Edition) (s x : List ℕ) (fits : length (s +
       (sym (reading-on-holds.reads circles ed s read-there.0 small read-there.1).refused) (omega (arith, counted item refl i))
       ∙ ap (λ (j : Judgement). refused_by circles ed s ++ no_by (judged j.tables j.state e).verdict (was.events + was.refused) []) (sym was-on)
 
-  asked-on : (e : Event) (pu : ℕ) → asked_by was (Says e pu) ≡ verdict_number (judged was.tables was.state e).verdict
+  asked-on : (e : Event) (pu : ℕ) → asked_by was (says e pu) ≡ verdict_number (judged was.tables was.state e).verdict
   unfolding asked_by
-  asked-on e pu = ap (λ (v : Verdict). asked_after v was (Says e pu)) whole
+  asked-on e pu = ap (λ (v : Verdict). asked_after v was (says e pu)) whole
 
   reads-on-behind : ReadsOnBehind circles ed s x
   reads-on-behind = record { event = event-on; listed = listed-on; asked = asked-on; bad_mark = mark_on }
@@ -318,9 +318,9 @@ module _ (circles : Circles) (ed : Edition) (s x : List ℕ) (fits : length (s +
         inside.ends,
       )
 
-  asked-to : (e : Event) (pu : ℕ) → asked_by before (Says e pu) ≡ verdict_number (judged old.tables old.state e).verdict
+  asked-to : (e : Event) (pu : ℕ) → asked_by before (says e pu) ≡ verdict_number (judged old.tables old.state e).verdict
   unfolding asked_by
-  asked-to e pu = ap (λ (v : Verdict). asked_after v before (Says e pu)) whole
+  asked-to e pu = ap (λ (v : Verdict). asked_after v before (says e pu)) whole
 
   -- the opening is the book, where reading both ended behind it
   opening-kept : (r : Reading) → r.opening ≡ length s → take r.opening (s ++ x) ≡ opening_by circles ed s
@@ -363,8 +363,8 @@ module _ (circles : Circles) (ed : Edition) (s x : List ℕ) (fits : length (s +
       unfolding taken_by
       on-records =
           let fine = ap (λ (j : Judgement). j.answer) (sym was-same) ∙ whole in
-          ap (λ (j : Judgement). j.records) (event-on circles ed s x fits fine e pu i ∙ ap (λ (j : Judgement). taken_by j (Says e pu)) (sym was-same))
-          ∙ ap (λ (w : Verdict). (taken_after w (judgement_to ed (judgement_by circles ed s).records old) (Says e pu)).records) whole
+          ap (λ (j : Judgement). j.records) (event-on circles ed s x fits fine e pu i ∙ ap (λ (j : Judgement). taken_by j (says e pu)) (sym was-same))
+          ∙ ap (λ (w : Verdict). (taken_after w (judgement_to ed (judgement_by circles ed s).records old) (says e pu)).records) whole
           ∙ ap (λ (w : Verdict). (then_by w (judgement_to ed (judgement_by circles ed s).records old) after pu).records) v
 
     records-by : (ed' : Edition) → ed ≡ ed' → (judged old.tables old.state e).verdict ≡ Accepted
@@ -387,7 +387,7 @@ module _ (circles : Circles) (ed : Edition) (s x : List ℕ) (fits : length (s +
         ∙ ap (λ (l : List ℕ). noted_at old.state.ops.count (judged old.tables old.state e).state.ops.count pu (records_up_to circles ed l))
         (sym (opening-all circles ed s whole))
 
-    accepted-to : (judged old.tables old.state e).verdict ≡ Accepted → up_to circles ed (s ++ x) ≡ taken_by before (Says e pu)
+    accepted-to : (judged old.tables old.state e).verdict ≡ Accepted → up_to circles ed (s ++ x) ≡ taken_by before (says e pu)
     unfolding taken_by
     accepted-to v =
         ap₂ (judgement_to ed) (records-then v) (accepted-both v)
@@ -402,12 +402,12 @@ module _ (circles : Circles) (ed : Edition) (s x : List ℕ) (fits : length (s +
           records = noted_at old.state.ops.count (judged old.tables old.state e).state.ops.count pu (records_up_to circles ed (opening_by circles ed s));
         })
         ∙ ap (λ (w : Verdict). then_by w before (judged old.tables old.state e).state pu) (sym v)
-        ∙ ap (λ (w : Verdict). taken_after w before (Says e pu)) (sym whole)
+        ∙ ap (λ (w : Verdict). taken_after w before (says e pu)) (sym whole)
 
     refused-to : (r : Refusal) → (judged old.tables old.state e).verdict ≡ Refused r → up_to circles ed (s ++ x) ≡ ended_by r (length s) before
     refused-to r v = stopped-to r (refused-both r v)
 
-    asked-both : asked_by before (Says e pu) ≡ verdict_number (reading_by circles ed (s ++ x)).answer
+    asked-both : asked_by before (says e pu) ≡ verdict_number (reading_by circles ed (s ++ x)).answer
     asked-both =
         asked-to e pu
         ∙ verdict-cases (judged old.tables old.state e).verdict

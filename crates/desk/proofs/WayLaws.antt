@@ -1,20 +1,12 @@
 -- The ways of reading, by number.
-use Prim.Native.Nat.{ℕ, ◌%◌, ◌<◌, ◌≤◌}
+use Prim.Native.Nat.{ℕ}
 use mathlib.Core.Path.{◌≡◌}
 use mathlib.Core.Bool.{true, false}
 use mathlib.Core.List.{List}
-use borrow.Author.Tests.{lt-ltb, le-ltb}
 use Rattle.tables.specs.Reading.{edition_of}
 use Rattle.tables.specs.declared.Circles.{Circles}
-use Rattle.tables.specs.declared.Circles.TheVariants.{Forbidden, Permitted}
 use Rattle.onward.specs.Onward.{judgement_by, judgement_up_to}
 use Rattle.desk.specs.Ways.{circles_in, judged, reads_on}
-
-pub circles-forbidden : (way : ℕ) → way % 4 < 2 → Forbidden ≡ circles_in way
-circles-forbidden way h = rw (lt-ltb (way % 4) 2 h)
-
-pub circles-permitted : (way : ℕ) → 2 ≤ way % 4 → Permitted ≡ circles_in way
-circles-permitted way h = rw (le-ltb (way % 4) 2 h)
 
 module _ (way : ℕ) (s : List ℕ) (circles : Circles) (c : circles ≡ circles_in way) where
   -- on past refused events

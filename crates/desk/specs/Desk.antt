@@ -1,16 +1,19 @@
 -- A desk: what a book's tables say and how everything stands after its events, in numbers that a caller lends; and what one event more makes of it.
-use Rattle.std.specs.Prelude.{ℕ, ◌+◌, ◌≡◌, cond, List, [], ◌∷◌, eqb, ltb, get_or}
+use Rattle.std.specs.Prelude.{ℕ, ◌+◌, ◌≡◌, cond, List, [], ◌∷◌, eqb, ltb, get_or, Result, Ok, Err}
 use Rattle.terms.specs.Limits.{most_bytes}
 use Rattle.terms.specs.Refusals.{number_of, verdict_number}
 use Rattle.terms.specs.declared.Event.{Event}
 use Rattle.terms.specs.declared.Event.TheVariants.{Begin, Commit, Abort, Operation as Invoke, Delegate, CommitOne, AbortOne, Spawn}
 use Rattle.terms.specs.declared.Mark.TheVariants.{Read, Write}
+use Rattle.terms.specs.declared.Refusal.{Refusal}
 use Rattle.terms.specs.declared.Refusal.TheVariants.{BadCode, BadNumber, NotInTables}
 use Rattle.terms.specs.declared.Verdict.{Verdict}
 use Rattle.terms.specs.declared.Verdict.TheVariants.{Accepted, Refused}
 use Rattle.number.specs.Number.{ceiling_of, edition_named, edition_number}
 use Rattle.number.specs.declared.Edition.{Edition}
 use Rattle.number.specs.declared.Edition.TheVariants.{First, Second}
+use Rattle.items.specs.declared.EventSort.{EventSort}
+use Rattle.items.specs.declared.EventSort.TheVariants.{Begins, Commits, Aborts, Operates, Delegates, CommitsOne, AbortsOne, Spawns}
 use Rattle.tables.specs.Accepted.{Well}
 use Rattle.sheet.specs.Sheet.{Holds}
 use Rattle.rules.specs.declared.State.{State}
@@ -20,29 +23,48 @@ use Rattle.histories.specs.Histories.{reached}
 use Rattle.left.specs.Left.{left_in}
 use Rattle.onward.specs.Onward.{noted_at}
 use Rattle.onward.specs.declared.Judgement.{Judgement}
-use Rattle.desk.specs.declared.Named.{Named}
-use Rattle.desk.specs.declared.Named.TheVariants.{Says, NoCode, NoMark, NoNumber}
+use Rattle.desk.specs.declared.Unnamed.{Unnamed}
+use Rattle.desk.specs.declared.Unnamed.TheVariants.{NoCode, NoMark, NoNumber}
 
 -- ---- an event by its fields, as they stand in a book
 
+-- an event and its record, 0 where it has none; or why there is no event
+abbrev pub Named : Type 0
+Named = Result (Event × ℕ) Unnamed
+
+abbrev pub says : Event → ℕ → Named
+says e pu = Ok (e, pu)
+
 -- 0 is a read, 1 a write; another mark is none
 abbrev pub marked_by : ℕ → ℕ → ℕ → ℕ → Named
-marked_by t object mark pu = cond (eqb mark 0) (Says (Invoke t object Read) pu) (cond (eqb mark 1) (Says (Invoke t object Write) pu) NoMark)
+marked_by t object mark pu = cond (eqb mark 0) (says (Invoke t object Read) pu) (cond (eqb mark 1) (says (Invoke t object Write) pu) (Err NoMark))
 
 -- an operation with the pupil record beside it: edition 1 has none, and in edition 2 it is a number that a field can say
 abbrev pub operation_by : Edition → ℕ → ℕ → ℕ → ℕ → Named
 operation_by First t object mark pu = marked_by t object mark 0
-operation_by Second t object mark pu = cond (ltb (ceiling_of Second) pu) NoNumber (marked_by t object mark pu)
+operation_by Second t object mark pu = cond (ltb (ceiling_of Second) pu) (Err NoNumber) (marked_by t object mark pu)
+
+-- the record that stands beside an event of a sort, 0 where it has none; or why there is none
+abbrev pub record_beside : Edition → EventSort → ℕ → Result ℕ Unnamed
+record_beside First sort pu = Ok 0
+record_beside Second Begins pu = Ok 0
+record_beside Second Commits pu = Ok 0
+record_beside Second Aborts pu = Ok 0
+record_beside Second Operates pu = cond (ltb (ceiling_of Second) pu) (Err NoNumber) (Ok pu)
+record_beside Second Delegates pu = Ok 0
+record_beside Second CommitsOne pu = Ok 0
+record_beside Second AbortsOne pu = Ok 0
+record_beside Second Spawns pu = Ok 0
 
 -- a code, and the fields that follow it, of which an event takes as many as it has
 unfoldable pub named_by : Edition → ℕ → ℕ → ℕ → ℕ → ℕ → Named
 named_by ed code a b c d =
-    cond (eqb code 1) (Says (Begin a) 0)
-    (cond (eqb code 2) (Says (Commit a) 0)
-    (cond (eqb code 3) (Says (Abort a) 0)
+    cond (eqb code 1) (says (Begin a) 0)
+    (cond (eqb code 2) (says (Commit a) 0)
+    (cond (eqb code 3) (says (Abort a) 0)
     (cond (eqb code 4) (operation_by ed a b c d)
-    (cond (eqb code 5) (Says (Delegate a b c) 0)
-    (cond (eqb code 6) (Says (CommitOne a b) 0) (cond (eqb code 7) (Says (AbortOne a b) 0) (cond (eqb code 8) (Says (Spawn a b) 0) NoCode)))))))
+    (cond (eqb code 5) (says (Delegate a b c) 0)
+    (cond (eqb code 6) (says (CommitOne a b) 0) (cond (eqb code 7) (says (AbortOne a b) 0) (cond (eqb code 8) (says (Spawn a b) 0) (Err NoCode))))))))
 
 -- ---- one event more behind what was read
 
@@ -84,16 +106,19 @@ event_then j e pu = then_by (judged j.tables j.state e).verdict j (judged j.tabl
 
 -- one whose mark is none is refused by 8; what has no code, or a record that is no number, is no event
 abbrev pub named_then : Judgement → Named → Judgement
-named_then j (Says e pu) = event_then j e pu
-named_then j NoCode = j
-named_then j NoMark = passed_over j
-named_then j NoNumber = j
+named_then j (Ok (e, pu)) = event_then j e pu
+named_then j (Err NoCode) = j
+named_then j (Err NoMark) = passed_over j
+named_then j (Err NoNumber) = j
+
+abbrev pub refusal_of : Unnamed → Refusal
+refusal_of NoCode = BadCode
+refusal_of NoMark = NotInTables
+refusal_of NoNumber = BadNumber
 
 abbrev pub named_number : Judgement → Named → ℕ
-named_number j (Says e pu) = verdict_number (judged j.tables j.state e).verdict
-named_number j NoCode = number_of BadCode
-named_number j NoMark = number_of NotInTables
-named_number j NoNumber = number_of BadNumber
+named_number j (Ok (e, pu)) = verdict_number (judged j.tables j.state e).verdict
+named_number j (Err why) = number_of (refusal_of why)
 
 -- behind a refusal that ended the reading nothing is read
 abbrev pub taken_after : Verdict → Judgement → Named → Judgement

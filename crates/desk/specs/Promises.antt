@@ -1,5 +1,5 @@
 -- What is promised of a desk: asking and taking give what reading the book with that event behind it gives, on past refused events and to the first refusal.
-use Rattle.std.specs.Prelude.{ℕ, ◌+◌, ◌≤◌, ◌<◌, ◌≡◌, ◌↔◌, List, [], ◌∷◌, ◌++◌, get_or, length, take}
+use Rattle.std.specs.Prelude.{ℕ, ◌+◌, ◌≤◌, ◌<◌, ◌≡◌, ◌↔◌, List, [], ◌∷◌, ◌++◌, get_or, length, take, Err}
 use Rattle.terms.specs.Limits.{most_bytes}
 use Rattle.terms.specs.Refusals.{verdict_number}
 use Rattle.terms.specs.declared.Event.{Event}
@@ -19,17 +19,16 @@ use Rattle.judge.specs.Judge.{judged}
 use Rattle.closing.specs.Closing.{outstanding}
 use Rattle.onward.specs.Onward.{judgement_by, judgement_up_to, no_by, refused_by}
 use Rattle.onward.specs.declared.Judgement.{Judgement}
-use Rattle.desk.specs.Desk.{Desk, DeskStands, asked_by, named_by, taken_by}
+use Rattle.desk.specs.Desk.{Desk, DeskStands, Named, asked_by, named_by, says, taken_by}
 use Rattle.desk.specs.Questions.{saga_numbers}
-use Rattle.desk.specs.declared.Named.{Named}
-use Rattle.desk.specs.declared.Named.TheVariants.{Says, NoMark}
+use Rattle.desk.specs.declared.Unnamed.TheVariants.{NoMark}
 
 -- ---- an event is named by its own fields, and by no others
 
 -- by its code and what follows it, its record among them where it has one
 abbrev pub NamesFields : Type 0
 NamesFields = (ed : Edition) (code a b c d : ℕ) (e : Event) (pu : ℕ)
-    → (named_by ed code a b c d ≡ Says e pu)
+    → (named_by ed code a b c d ≡ says e pu)
     ↔ ((take (length (fields_of_event ed e pu)) (code ∷ a ∷ b ∷ c ∷ d ∷ []) ≡ fields_of_event ed e pu) × ((record_in ed e pu ≡ pu) × (pu ≤ ceiling_of ed)))
 
 -- ---- one item behind a book
@@ -62,29 +61,29 @@ ended_by r place j =
 -- a book that is read to its end, on past refused events, with x behind it
 pub record ReadsOnBehind (circles : Circles) (ed : Edition) (s x : List ℕ) : Type 0 where
   -- reading both is reading the book and taking the event
-  pub event : (e : Event) (pu : ℕ) → EventBehind ed s x e pu → judgement_by circles ed (s ++ x) ≡ taken_by (judgement_by circles ed s) (Says e pu)
+  pub event : (e : Event) (pu : ℕ) → EventBehind ed s x e pu → judgement_by circles ed (s ++ x) ≡ taken_by (judgement_by circles ed s) (says e pu)
   -- and its refusal, which is what asking answers, is listed behind the book's own
   pub listed : (e : Event) (pu : ℕ) → EventBehind ed s x e pu
       → refused_by circles ed (s ++ x)
       ≡ refused_by circles ed s
       ++ no_by (judged (judgement_by circles ed s).tables (judgement_by circles ed s).state e).verdict ((judgement_by circles ed s).events + (judgement_by circles ed s).refused) []
   pub asked : (e : Event) (pu : ℕ)
-      → asked_by (judgement_by circles ed s) (Says e pu) ≡ verdict_number (judged (judgement_by circles ed s).tables (judgement_by circles ed s).state e).verdict
+      → asked_by (judgement_by circles ed s) (says e pu) ≡ verdict_number (judged (judgement_by circles ed s).tables (judgement_by circles ed s).state e).verdict
   -- the same of one whose mark is none
-  pub bad_mark : MarkBehind ed s x → judgement_by circles ed (s ++ x) ≡ taken_by (judgement_by circles ed s) NoMark
+  pub bad_mark : MarkBehind ed s x → judgement_by circles ed (s ++ x) ≡ taken_by (judgement_by circles ed s) (Err NoMark)
 
 -- a book that is accepted whole in the old way, with x behind it
 pub record ReadsToBehind (circles : Circles) (s x : List ℕ) : Type 0 where
   -- an accepted event is taken
   pub accepted : (e : Event) (pu : ℕ) → EventBehind (edition_of s) s x e pu → (judged (judgement_up_to circles s).tables (judgement_up_to circles s).state e).verdict ≡ Accepted
-      → judgement_up_to circles (s ++ x) ≡ taken_by (judgement_up_to circles s) (Says e pu)
+      → judgement_up_to circles (s ++ x) ≡ taken_by (judgement_up_to circles s) (says e pu)
   -- a refused one ends the reading, at its own place and with nothing changed
   pub refused : (e : Event) (pu : ℕ) (r : Refusal) → EventBehind (edition_of s) s x e pu
       → (judged (judgement_up_to circles s).tables (judgement_up_to circles s).state e).verdict ≡ Refused r
       → judgement_up_to circles (s ++ x) ≡ ended_by r (length s) (judgement_up_to circles s)
   -- and what asking answers is the answer of reading both
   pub asked : (e : Event) (pu : ℕ) → EventBehind (edition_of s) s x e pu
-      → asked_by (judgement_up_to circles s) (Says e pu) ≡ verdict_number (judgement_up_to circles (s ++ x)).answer
+      → asked_by (judgement_up_to circles s) (says e pu) ≡ verdict_number (judgement_up_to circles (s ++ x)).answer
   -- the same of one whose mark is none
   pub bad_mark : MarkBehind (edition_of s) s x → judgement_up_to circles (s ++ x) ≡ ended_by NotInTables (length s) (judgement_up_to circles s)
 

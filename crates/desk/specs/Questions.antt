@@ -1,7 +1,9 @@
 -- What is asked of a desk, in numbers.
-use Rattle.std.specs.Prelude.{ℕ, cond, List, [], ◌∷◌, eqb, ltb, get_or}
+use Rattle.std.specs.Prelude.{ℕ, cond, List, [], ◌∷◌, ltb, get_or, Result, Ok, Err}
 use Rattle.laws.specs.Index.{one}
-use Rattle.terms.specs.declared.Refusal.TheVariants.{TooLong, Torn, BadNumber, BadEdition, BadCount, BadDependency, BadCode, NotInTables, NeverDoes, NotIdle, NotActive, NotResponsible, SagaRule, DependencyRule, DirtyRead, OnRing, MustWait, Full, NoRoom, AlreadyEnded, NeverMoves, UndoOnRing}
+use Rattle.terms.specs.Refusals.{refusal_in}
+use Rattle.terms.specs.declared.NoRefusal.{NoRefusal}
+use Rattle.terms.specs.declared.Refusal.{Refusal}
 use Rattle.terms.specs.declared.Verdict.{Verdict}
 use Rattle.terms.specs.declared.Verdict.TheVariants.{Accepted, Refused}
 use Rattle.ties.specs.Operations.{op_at, size}
@@ -75,29 +77,12 @@ tally_of j =
 
 -- ---- the verdict of a number
 
+abbrev pub verdict_of : Result Refusal NoRefusal → Verdict
+verdict_of (Ok r) = Refused r
+verdict_of (Err none) = Accepted
+
 unfoldable pub verdict_in : ℕ → Verdict
-verdict_in n =
-    cond (eqb n 1) (Refused TooLong)
-    (cond (eqb n 2) (Refused Torn)
-    (cond (eqb n 3) (Refused BadNumber)
-    (cond (eqb n 4) (Refused BadEdition)
-    (cond (eqb n 5) (Refused BadCount)
-    (cond (eqb n 6) (Refused BadDependency)
-    (cond (eqb n 7) (Refused BadCode)
-    (cond (eqb n 8) (Refused NotInTables)
-    (cond (eqb n 9) (Refused NeverDoes)
-    (cond (eqb n 10) (Refused NotIdle)
-    (cond (eqb n 11) (Refused NotActive)
-    (cond (eqb n 12) (Refused NotResponsible)
-    (cond (eqb n 13) (Refused SagaRule)
-    (cond (eqb n 14) (Refused DependencyRule)
-    (cond (eqb n 15) (Refused DirtyRead)
-    (cond (eqb n 16) (Refused OnRing)
-    (cond (eqb n 17) (Refused MustWait)
-    (cond (eqb n 18) (Refused Full)
-    (cond (eqb n 19) (Refused NoRoom)
-    (cond (eqb n 20) (Refused AlreadyEnded)
-    (cond (eqb n 21) (Refused NeverMoves) (cond (eqb n 22) (Refused UndoOnRing) Accepted)))))))))))))))))))))
+verdict_in n = verdict_of (refusal_in n)
 
 -- ---- the tables, as far as questions look at them: sagas, their steps, and plain transactions
 

@@ -1,9 +1,12 @@
 // A desk: what a book's tables say and how everything stands after its events, in numbers that the caller lends. A program opens it on a book once, and then asks and takes
 // event after event without reading the book again. Numbers of any value are safe; what is promised is promised of a desk that stands for a reading.
+//
+// The C interface has numbers and arrays of numbers only, and hands on what stands here as it is: so a way of reading, the code of an event and an answer are numbers, and the counts
+// of a desk are one array. The arrays of a desk come one by one, here as there, in opening, asking, taking and the questions, each with those that it looks at: a struct of references
+// would be made for one call and taken apart in it.
 #![tactic(auto)]
 
 ghost use Rattle.std.specs.Prelude.{◌≡◌, true, List, [], ◌∷◌, ℕ, ◌≤◌, get_or};
-ghost use Rattle.laws.specs.Index.{one};
 ghost use Rattle.terms.specs.Refusals.{verdict_number};
 ghost use Rattle.terms.specs.declared.Verdict.TheVariants.{Accepted};
 ghost use Rattle.ties.specs.Operations.{most_operations, op_at};
@@ -16,14 +19,14 @@ ghost use Rattle.report.specs.Report.{report_of};
 ghost use Rattle.onward.specs.declared.Judgement.{Judgement};
 ghost use Rattle.listing.specs.Lines.{place_answer, place_room};
 ghost use Rattle.desk.specs.Ways.{reads_on, circles_in, judged};
-ghost use Rattle.desk.specs.Desk.{DeskStands, asked_by, desk_of, edition_in, event_then, marked_by, more, named_by, operation_by, taken_by};
+ghost use Rattle.desk.specs.Desk.{DeskStands, asked_by, desk_of, edition_in, event_then, more, named_by, record_beside, refusal_of, taken_by};
 ghost use Rattle.desk.specs.Questions.{fate_number, operation_numbers, operation_numbers_of, outline_in, phase_number, saga_numbers, saga_numbers_by, tally_of, verdict_in};
 
 use closing::NextStep;
-use listing::Placed;
+use items::EventSort;
+use listing::NotPlaced;
 use number::Edition;
 use onward::Judgement;
-use replay::Copied;
 use rules::{Phase, State, Transaction};
 use sheet::Sheet;
 use tables::{Circles, Tables};
@@ -57,14 +60,28 @@ impl Desk {
     pub const COUNTS: usize = 9;
 }
 
-// What a code with its fields says: an event and its record, 0 where it has none; nothing, for there is no such code; an operation whose mark is none; or one whose record no
-// field can say.
-#[derive(Drop)]
-pub enum Named {
-    Says(Event, u32),
+// What a code with its fields says: an event and its record, 0 where it has none.
+pub type Named = Result<(Event, u32), Unnamed>;
+
+// Why they say no event: there is no such code; the mark of an operation is none; or its record is one that no field can say.
+#[derive(Clone, Copy)]
+pub enum Unnamed {
     NoCode,
     NoMark,
     NoNumber,
+}
+
+impl Unnamed {
+    // The refusal by which asking and taking answer.
+    fn refusal(self) -> Refusal
+        ensures { result ≡ refusal_of self }
+    {
+        match self {
+            Unnamed::NoCode => Refusal::BadCode,
+            Unnamed::NoMark => Refusal::NotInTables,
+            Unnamed::NoNumber => Refusal::BadNumber,
+        }
+    }
 }
 
 // ---- reading a book in one of the ways
@@ -94,10 +111,7 @@ pub fn judged(book: &[u8], way: u64) -> Judgement
     if reads_on(way) {
         return onward::read_by(book, circles);
     }
-    match circles {
-        Circles::Forbidden => onward::read_to_first_refusal(book),
-        Circles::Permitted => onward::read_to_first_refusal_permitting_circles(book),
-    }
+    onward::read_up_to(book, circles)
 }
 
 // ---- opening a desk
@@ -110,11 +124,8 @@ fn put_transactions(
     ensures { ((t : ℕ) → parent_fits (parent_of all t) ≡ true) → transactions_in transactions.new ≡ all }
 {
     *transactions = [0u32; Book::TRANSACTIONS];
-    let mut t: usize = 0;
-    while t < Book::TRANSACTIONS {
-        let x = all[t];
-        rules::put(transactions, t, x);
-        t += 1;
+    for t in 0..Book::TRANSACTIONS {
+        rules::put(transactions, t, all[t]);
     }
 }
 
@@ -125,11 +136,8 @@ fn put_operations(made: Ops, ops: &mut [u32; Operation::MOST])
     *ops = [0u32; Operation::MOST];
     let total = made.size();
     let mut n: usize = 0;
-    let mut i: usize = 0;
-    while i < total {
-        let op = made.all[i];
-        n = cells::made(ops, n, op);
-        i += 1;
+    for i in 0..total {
+        n = cells::made(ops, n, made.all[i]);
     }
 }
 
@@ -184,30 +192,19 @@ fn edition_in(counts: &[u64; Desk::COUNTS]) -> Edition
     Edition::named(counts[Desk::EDITION] as usize)
 }
 
-// An operation with its mark: 0 is a read, 1 a write.
-fn marked(t: usize, object: usize, mark: usize, pupil: u32) -> Named
-    ensures { result ≡ marked_by t object mark pupil }
+// The record beside an event of a sort: an operation alone has one, from edition 2 on, and it is a number that a field can say. Any other's is not looked at.
+fn record_beside(edition: Edition, sort: EventSort, pupil: u64) -> Result<u32, Unnamed>
+    ensures { result ≡ record_beside edition sort pupil }
 {
-    match mark {
-        0 => Named::Says(Event::Operation(t, object, Mark::Read), pupil),
-        1 => Named::Says(Event::Operation(t, object, Mark::Write), pupil),
-        _ => Named::NoMark,
-    }
-}
-
-// An operation with the pupil record beside it, which is not looked at in edition 1.
-fn operation_by(edition: Edition, t: usize, object: usize, mark: usize, pupil: u64) -> Named
-    ensures { result ≡ operation_by edition t object mark pupil }
-{
-    match edition {
-        Edition::First => marked(t, object, mark, 0),
-        Edition::Second => {
+    match (edition, sort) {
+        (Edition::Second, EventSort::Operates) => {
             let most = edition.most() as u64;
             if most < pupil {
-                return Named::NoNumber;
+                return Err(Unnamed::NoNumber);
             }
-            marked(t, object, mark, pupil as u32)
+            Ok(pupil as u32)
         }
+        _ => Ok(0),
     }
 }
 
@@ -215,17 +212,17 @@ fn operation_by(edition: Edition, t: usize, object: usize, mark: usize, pupil: u
 fn named_by(edition: Edition, code: u64, a: usize, b: usize, c: usize, d: u64) -> Named
     ensures { result ≡ named_by edition code a b c d }
 {
-    match code {
-        1 => Named::Says(Event::Begin(a), 0),
-        2 => Named::Says(Event::Commit(a), 0),
-        3 => Named::Says(Event::Abort(a), 0),
-        4 => operation_by(edition, a, b, c, d),
-        5 => Named::Says(Event::Delegate(a, b, c), 0),
-        6 => Named::Says(Event::CommitOne(a, b), 0),
-        7 => Named::Says(Event::AbortOne(a, b), 0),
-        8 => Named::Says(Event::Spawn(a, b), 0),
-        _ => Named::NoCode,
-    }
+    let Some(sort) = items::code_of(code as usize) else {
+        return Err(Unnamed::NoCode);
+    };
+    let pupil = match record_beside(edition, sort, d) {
+        Ok(pupil) => pupil,
+        Err(why) => return Err(why),
+    };
+    let Some(event) = sort.meaning(a, b, c) else {
+        return Err(Unnamed::NoMark);
+    };
+    Ok((event, pupil))
 }
 
 // Whether an event would be accepted: 0, or the number of its refusal. Nothing is changed. Behind a refusal that ended the reading every event is refused by that.
@@ -250,14 +247,15 @@ pub fn ask(
     let edition = edition_in(counts);
     let asked = named_by(edition, code, a as usize, b as usize, c as usize, d);
     match asked {
-        Named::Says(event, _) => {
+        Ok((event, _)) => {
             let ruled = judge::rule(sheet, transactions, ops, n, event);
             let verdict = ruled.verdict;
             verdict.number() as u64
         }
-        Named::NoCode => 7,
-        Named::NoMark => 8,
-        Named::NoNumber => 3,
+        Err(why) => {
+            let refusal = why.refusal();
+            refusal.number() as u64
+        }
     }
 }
 
@@ -327,7 +325,8 @@ fn take_event(
     }
 }
 
-// Takes an event behind all others: 0 if it is accepted, and then the desk is moved on; else the number of its refusal.
+// Takes an event behind all others: 0 if it is accepted, and then the desk is moved on; else the number of its refusal. An operation whose mark is none is counted among the refused
+// events; what has no code, or a record that no field can say, is no event.
 pub fn take(
     sheet: &[u32; Sheet::NUMBERS],
     transactions: &mut [u32; Book::TRANSACTIONS],
@@ -349,25 +348,34 @@ pub fn take(
     let edition = edition_in(counts);
     let taken = named_by(edition, code, a as usize, b as usize, c as usize, d);
     match taken {
-        Named::Says(event, pupil) => {
+        Ok((event, pupil)) => {
             take_event(sheet, transactions, ops, records, counts, event, pupil)
         }
-        Named::NoCode => 7,
-        Named::NoNumber => 3,
-        Named::NoMark => {
-            let operations = counts[Desk::OPERATIONS];
-            let accepted = counts[Desk::ACCEPTED];
-            let refused = counts[Desk::REFUSED];
-            let left = counts[Desk::LEFT];
-            let passed = more(refused);
-            put_counts(counts, operations, accepted, passed, left);
-            8
+        Err(why) => {
+            let refusal = why.refusal();
+            let number = refusal.number() as u64;
+            match why {
+                Unnamed::NoCode => number,
+                Unnamed::NoNumber => number,
+                Unnamed::NoMark => {
+                    let operations = counts[Desk::OPERATIONS];
+                    let accepted = counts[Desk::ACCEPTED];
+                    let refused = counts[Desk::REFUSED];
+                    let left = counts[Desk::LEFT];
+                    let passed = more(refused);
+                    put_counts(counts, operations, accepted, passed, left);
+                    number
+                }
+            }
         }
     }
 }
 
 // ---- questions
 
+// The numbers of a phase, a fate and a mark are written out here for themselves: `rules` and `cells` have the same or others inside the words that they pack, and to ask those would
+// make an inside of theirs public for a match of this size.
+//
 // 0 idle, 1 active, 2 committed, 3 aborted.
 fn phase_number(phase: Phase) -> u64
     ensures { result ≡ phase_code phase }
@@ -458,16 +466,6 @@ fn outline(steps: &[u8; Book::SAGAS], counts: &[u64; Desk::COUNTS]) -> Tables
     }
 }
 
-// 1 if it is so, 0 if not.
-fn one(so: bool) -> u64
-    ensures { result ≡ one so }
-{
-    if so {
-        return 1;
-    }
-    0
-}
-
 // A closing step's event as a book has it, 0 if there is none, its transaction, the number outstanding, and 1 if the saga is settled.
 fn saga_numbers(step: NextStep, owed: usize, done: u64) -> [u64; 4]
     ensures { result ≡ saga_numbers_by step owed done }
@@ -490,7 +488,7 @@ pub fn saga_of(tables: Tables, state: State, index: u64) -> [u64; 4]
         let step = closing::closing(tables, state, i);
         let owed = closing::outstanding(tables, state, i);
         let settled = closing::settled(tables, state, i);
-        let done = one(settled);
+        let done = u64::from(settled);
         return saga_numbers(step, owed, done);
     }
     [255, 0, 0, 0]
@@ -558,7 +556,7 @@ pub fn replay(
     ops: &[u32; Operation::MOST],
     counts: &[u64; Desk::COUNTS],
     list: &mut [u16],
-) -> Copied
+) -> Option<usize>
     ensures { (j : Judgement) (sheet transactions records steps : List ℕ) → DeskStands j (desk_of sheet transactions ops.now records steps counts.now) → (result ≡ copy_answer (order_of j.state.ops) list.old) × (list.new ≡ copy_room (order_of j.state.ops) list.old) }
 {
     let made = cells::ops_of(ops, counts[Desk::OPERATIONS] as usize);
@@ -566,33 +564,13 @@ pub fn replay(
 }
 
 // The verdict of a number; one that is no refusal's is accepted.
+#[tactic(auto, unfolding(crate::specs::Questions::verdict_in))]
 fn verdict_in(n: u64) -> Verdict
     ensures { result ≡ verdict_in n }
 {
-    match n {
-        1 => Verdict::Refused(Refusal::TooLong),
-        2 => Verdict::Refused(Refusal::Torn),
-        3 => Verdict::Refused(Refusal::BadNumber),
-        4 => Verdict::Refused(Refusal::BadEdition),
-        5 => Verdict::Refused(Refusal::BadCount),
-        6 => Verdict::Refused(Refusal::BadDependency),
-        7 => Verdict::Refused(Refusal::BadCode),
-        8 => Verdict::Refused(Refusal::NotInTables),
-        9 => Verdict::Refused(Refusal::NeverDoes),
-        10 => Verdict::Refused(Refusal::NotIdle),
-        11 => Verdict::Refused(Refusal::NotActive),
-        12 => Verdict::Refused(Refusal::NotResponsible),
-        13 => Verdict::Refused(Refusal::SagaRule),
-        14 => Verdict::Refused(Refusal::DependencyRule),
-        15 => Verdict::Refused(Refusal::DirtyRead),
-        16 => Verdict::Refused(Refusal::OnRing),
-        17 => Verdict::Refused(Refusal::MustWait),
-        18 => Verdict::Refused(Refusal::Full),
-        19 => Verdict::Refused(Refusal::NoRoom),
-        20 => Verdict::Refused(Refusal::AlreadyEnded),
-        21 => Verdict::Refused(Refusal::NeverMoves),
-        22 => Verdict::Refused(Refusal::UndoOnRing),
-        _ => Verdict::Accepted,
+    match Refusal::try_from(n) {
+        Ok(refusal) => Verdict::Refused(refusal),
+        Err(_) => Verdict::Accepted,
     }
 }
 
@@ -605,7 +583,7 @@ pub fn line(
     counts: &[u64; Desk::COUNTS],
     k: u64,
     room: &mut [u8],
-) -> Placed
+) -> Result<usize, NotPlaced>
     ensures { (j : Judgement) (sheet : List ℕ) → DeskStands j (desk_of sheet transactions.now ops.now records.now steps.now counts.now) → (result ≡ place_answer j k room.old) × (room.new ≡ place_room j k room.old) }
 {
     let ended = counts[Desk::ENDED];

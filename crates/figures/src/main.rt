@@ -4,40 +4,47 @@
 // more than 1,000; that, and what was not written or understood, is said on standard error, and nothing else stands there.
 #![tactic(auto)]
 
-use input::{Filled, Reason};
-use listing::{Put, Text};
+use input::Reason;
+use listing::Text;
 use meeting::Row;
 use std::env::{Env, FillError};
 use std::io;
 use std::io::Read;
 use std::process::ExitCode;
 use std::rt::Files;
-use totals::{Answer, Totals};
+use terms::Verdict;
+use totals::{Answer, NotRead, Totals};
 
 // ---- one book
 
-// The line of a refused book, by its name. 0 is no refusal.
-fn say_refused(out: &impl Print, name: &[u8], number: u8) -> io::Result<()> {
-    if number == 0 {
+// The line of a refused book, by its name; of one that is accepted nothing is said.
+fn say_refused(out: &impl Print, name: &[u8], verdict: Verdict) -> io::Result<()> {
+    let Verdict::Refused(refusal) = verdict else {
         return Ok(());
-    }
+    };
+    let number = refusal.number();
     print!(out; "refused {number} ")?;
     out.write_all(name)?;
     out.write_all(b"\n")
 }
 
-// Says of a book on standard error what is to be said of it behind its name; a name need not be text.
-fn warn(err: &impl Print, name: &[u8], words: &str) {
+// Begins what is said of a book on standard error with its name, which need not be text.
+fn say_name(err: &impl Print, name: &[u8]) {
     let _ = err.write_all(b"figures: ");
     let _ = err.write_all(name);
+}
+
+// Says of a book on standard error what is to be said of it.
+fn warn(err: &impl Print, name: &[u8], words: &str) {
+    say_name(err, name);
     let _ = println!(err; " {words}");
 }
 
 // What is to be said of a book that was read.
 fn say_answer(out: &impl Print, err: &impl Print, name: &[u8], answer: Answer) -> io::Result<()> {
     match answer {
-        Answer::Counted(verdict) => say_refused(out, name, verdict.number()),
-        Answer::TooManyBooks => {
+        Ok(verdict) => say_refused(out, name, verdict),
+        Err(NotRead::TooManyBooks) => {
             warn(
                 err,
                 name,
@@ -57,17 +64,14 @@ fn add_read(
     book: &[u8],
 ) -> io::Result<Totals> {
     let added = totals::add(totals, book);
-    let answer = added.answer;
-    let sum = added.totals;
-    say_answer(out, err, name, answer)?;
-    Ok(sum)
+    say_answer(out, err, name, added.answer)?;
+    Ok(added.totals)
 }
 
 // The book of this name was not read, for this reason, and is not counted.
 fn say_not_read(err: &impl Print, name: &[u8], reason: io::Error) {
     let reason = Reason(reason);
-    let _ = err.write_all(b"figures: ");
-    let _ = err.write_all(name);
+    say_name(err, name);
     let _ = println!(err; " was not read: {reason}");
 }
 
@@ -81,8 +85,8 @@ fn add_from(
 ) -> io::Result<Totals> {
     let mut bytes = [0u8; 65537];
     match input::fill(&mut file, &mut bytes) {
-        Filled::Whole(n) => add_read(out, err, totals, name, &bytes[..n]),
-        Filled::Failed(reason) => {
+        Ok(n) => add_read(out, err, totals, name, &bytes[..n]),
+        Err(reason) => {
             say_not_read(err, name, reason);
             Ok(totals)
         }
@@ -134,47 +138,41 @@ fn add_word(
 fn print_row(out: &impl Print, totals: Totals, row: Row) -> io::Result<()> {
     let text = meeting::row_line(totals, row);
     let mut room = [0u8; Text::MOST];
-    let Put::Wrote(n) = text.put(&mut room) else {
-        return Err(io::Error::other("there is no room for a row"));
-    };
-    out.write_all(&room[..n])
+    let put = text.put(&mut room);
+    input::write_front(out, &room, put)
 }
 
-// How many books were read and refused.
-fn print_books(out: &impl Print, totals: Totals) -> io::Result<()> {
-    print_row(out, totals, Row::BooksRead)?;
-    print_row(out, totals, Row::BooksRefused)
-}
-
-// How the moves stand.
-fn print_moves(out: &impl Print, totals: Totals) -> io::Result<()> {
-    print_row(out, totals, Row::Begun)?;
-    print_row(out, totals, Row::Committed)?;
-    print_row(out, totals, Row::BackedOut)?;
-    print_row(out, totals, Row::StillOpen)?;
-    print_row(out, totals, Row::OfThoseBegun)
-}
-
-// Writes the table.
+// Writes the table: how many books were read and refused, and how the moves stand.
 fn print_table(out: &impl Print, totals: Totals) -> io::Result<()> {
-    print_books(out, totals)?;
-    print_moves(out, totals)
+    let rows = [
+        Row::BooksRead,
+        Row::BooksRefused,
+        Row::Begun,
+        Row::Committed,
+        Row::BackedOut,
+        Row::StillOpen,
+        Row::OfThoseBegun,
+    ];
+    for row in rows {
+        print_row(out, totals, row)?;
+    }
+    Ok(())
 }
 
 // Adds the books that the words name, one after another, and writes the table.
 fn tell(rt: &(impl Env + Files + Print), err: &impl Print) -> io::Result<()> {
     let mut totals = Totals::none();
     for i in 1..usize::MAX {
-        match add_word(rt, err, totals, i)? {
-            Some(sum) => totals = sum,
-            None => break,
-        }
+        let Some(sum) = add_word(rt, err, totals, i)? else {
+            break;
+        };
+        totals = sum;
     }
     print_table(rt, totals)
 }
 
 fn main(rt: HostRuntime) -> ExitCode {
-    if !input::has_word(&rt, 1) {
+    if !input::is_word(rt.arg(1, &mut [])) {
         let _ = eprintln!(rt; "usage: figures BOOK ..");
         return ExitCode::SUCCESS;
     }

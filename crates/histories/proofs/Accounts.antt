@@ -20,8 +20,8 @@ use Rattle.ties.specs.declared.Ops.{Ops}
 use Rattle.ties.proofs.OpsLaws.{made_at, made-room, rewritten-at}
 use Rattle.tables.specs.declared.Tables.{Tables}
 use Rattle.rules.specs.States.{empty_state, entered, idle, parent_of, phase_of, spawned}
-use Rattle.rules.specs.declared.Parent.{Parent}
-use Rattle.rules.specs.declared.Parent.TheVariants.{Nobody, Under}
+use Rattle.rules.specs.States.{Parent}
+use Rattle.std.specs.Prelude.{None, Some}
 use Rattle.rules.specs.declared.Transaction.{Transaction}
 use Rattle.rules.specs.declared.Phase.{Phase}
 use Rattle.rules.specs.declared.Phase.TheVariants.{Active, Committed}
@@ -70,8 +70,8 @@ retold-is tables s (Commit t) a h v =
     ap (λ (p : Parent). retold (commit_under t p) a) (clerk-is tables s h.kin t ∙ h.parents t (commit-low tables s h.lasts t v)) ∙ as-kept (a.parent t)
   where
     as-kept : (p : Parent) → retold (commit_under t p) a ≡ kept t p (moved Committed t a)
-    as-kept Nobody = refl
-    as-kept (Under m) = refl
+    as-kept None = refl
+    as-kept (Some m) = refl
 retold-is tables s (Abort t) a h v = refl
 retold-is tables s (Invoke t o m) a h v = refl
 retold-is tables s (Delegate t r q) a h v = refl
@@ -139,13 +139,13 @@ module _ (tables : Tables) (s : State) (a : Account) (h : Tells tables a s) wher
       record {
         lasts = lasting-kept tables s (Spawns m c) h.lasts (spawns m c f);
         kin = kin-kept tables s (Spawns m c) h.kin (spawns m c f);
-        parents = λ t l. at_one (λ (x : Transaction). x.parent) (Under m) (a.parent t) t l refl (h.parents t l);
+        parents = λ t l. at_one (λ (x : Transaction). x.parent) (Some m) (a.parent t) t l refl (h.parents t l);
         phases = λ t l. at_one (λ (x : Transaction). x.phase) Active (a.phase t) t l refl (h.phases t l);
         counted = h.counted;
         each = h.each;
       }
     where
-      at_one : {A : Type 0} (of : Transaction → A) (new old : A) (t : ℕ) → t < most_transactions → of (record { phase = Active; parent = Under m }) ≡ new
+      at_one : {A : Type 0} (of : Transaction → A) (new old : A) (t : ℕ) → t < most_transactions → of (record { phase = Active; parent = Some m }) ≡ new
           → of (get_or s.transactions t idle) ≡ old → of (get_or (spawned m c s.transactions) t idle) ≡ cond (eqb t c) new old
       at_one of new old t l fresh before =
           same_or t c

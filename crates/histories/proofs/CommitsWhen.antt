@@ -24,7 +24,7 @@ use Rattle.tables.specs.Sorts.{is_known, is_plain, sort_of}
 use Rattle.tables.specs.declared.Tables.{Tables}
 use Rattle.rules.specs.Rules.{active_child, active_undo, child_active, declared_bars, inactive}
 use Rattle.rules.specs.States.{has_ended, is_active, is_idle, is_under, parent_of, phase_of}
-use Rattle.rules.specs.declared.Parent.TheVariants.{Nobody, Under}
+use Rattle.std.specs.Prelude.{None, Some}
 use Rattle.rules.specs.declared.Phase.{Phase}
 use Rattle.rules.specs.declared.Phase.TheVariants.{Aborted, Active, Committed, Idle}
 use Rattle.rules.specs.declared.State.{State}
@@ -141,7 +141,7 @@ module _ (tables : Tables) (es : List Event) where
 
   -- ---- a commit of one who is nobody's child
 
-  module _ (t : ℕ) (own : parent_of now.transactions t ≡ Nobody) where
+  module _ (t : ℕ) (own : parent_of now.transactions t ≡ None) where
     abbrev own_lines : List (Line Refusal)
     own_lines = commit_lines tables now.transactions now.ops t
 
@@ -229,7 +229,7 @@ module _ (tables : Tables) (es : List Event) where
 
   -- ---- that of m's child
 
-  module _ (t m : ℕ) (under : parent_of now.transactions t ≡ Under m) where
+  module _ (t m : ℕ) (under : parent_of now.transactions t ≡ Some m) where
     abbrev handed : List (Line Refusal)
     handed = hand_lines tables now.transactions now.ops t m
 

@@ -18,8 +18,8 @@ use Rattle.ties.specs.Operations.{all_held_by, is_committed, op_at, passed_to, s
 use Rattle.ties.proofs.OpsLaws.{count-rewritten, rewritten-at}
 use Rattle.tables.specs.declared.Tables.{Tables}
 use Rattle.rules.specs.States.{empty_state, has_ended, is_active, is_child, parent_of, phase_of}
-use Rattle.rules.specs.declared.Parent.{Parent}
-use Rattle.rules.specs.declared.Parent.TheVariants.{Nobody, Under}
+use Rattle.rules.specs.States.{Parent}
+use Rattle.std.specs.Prelude.{None, Some}
 use Rattle.rules.specs.declared.Phase.{Phase}
 use Rattle.rules.specs.declared.Phase.TheVariants.{Aborted, Active, Committed, Idle}
 use Rattle.rules.specs.declared.State.{State}
@@ -64,13 +64,13 @@ module _ (tables : Tables) (es : List Event) where
   abbrev now : State
   now = reached tables es
 
-  hands-over : (t m : ℕ) → parent_of now.transactions t ≡ Under m → (judged tables now (Commit t)).verdict ≡ Accepted → OnlyHands now (judged tables now (Commit t)).state t m
+  hands-over : (t m : ℕ) → parent_of now.transactions t ≡ Some m → (judged tables now (Commit t)).verdict ≡ Accepted → OnlyHands now (judged tables now (Commit t)).state t m
   hands-over t m e v =
       let own = clerk-is tables now (kin tables es) t ∙ e in
       subst⁻¹ (λ (x : State). OnlyHands now x t m) (next-ok tables now (Commit t) v ∙ ap (λ (p : Parent). state_after (commit_under t p) now) own)
       (only-hands tables now t m (lasting tables es) (handing tables now (subst (λ (p : Parent). Step tables now (commit_under t p)) own (step tables now (Commit t) v))))
 
-  none_kept : (q m : ℕ) → q < size now.ops → parent_of now.transactions (op_at now.ops q).responsible ≡ Under m → is_committed (op_at now.ops q).fate ≡ false
+  none_kept : (q m : ℕ) → q < size now.ops → parent_of now.transactions (op_at now.ops q).responsible ≡ Some m → is_committed (op_at now.ops q).fate ≡ false
   none_kept q m l e =
       is-not (is_committed (op_at now.ops q).fate) (λ k. clash (ap is_child e) ((unkept tables es).free q (omega (arith, size-count now (lasting tables es))) k))
 
@@ -127,12 +127,12 @@ module _ (tables : Tables) where
 
   record Under-it (c m : ℕ) (s : State) : Type 0 where
     kin : Kin tables s
-    parent : parent_of s.transactions c ≡ Under m
+    parent : parent_of s.transactions c ≡ Some m
 
   under-kept : (c m : ℕ) (s : State) (x : Change) → Under-it c m s → Step tables s x → Under-it c m (state_after x s)
   under-kept c m s x h w = record { kin = kin-kept tables s x h.kin w; parent = go (parented tables s x w c) }
     where
-      go : Parented tables s x c → parent_of (state_after x s).transactions c ≡ Under m
+      go : Parented tables s x c → parent_of (state_after x s).transactions c ≡ Some m
       go (same-parent q) = q ∙ h.parent
       go (adopted-now n f a q) = absurd (omega (arith, f.idle, (h.kin.begun c m h.parent).0))
 
@@ -188,7 +188,7 @@ module _ (tables : Tables) (es xs ys zs : List Event) (m c : ℕ) (low : c < mos
   then_is = run-append tables xs (Spawn m c ∷ ys) empty_state
 
   child-there : (judged tables (reached tables xs) (Spawn m c)).verdict ≡ Accepted
-      → (phase_of spawned-then.transactions c ≡ Active) × (parent_of spawned-then.transactions c ≡ Under m)
+      → (phase_of spawned-then.transactions c ≡ Active) × (parent_of spawned-then.transactions c ≡ Some m)
   child-there v = (event-promises.does tables (reached tables xs)).spawns m c (omega (arith, (lasting tables xs).full)) v
 
   -- m's children have ended, whoever's child m is
@@ -196,8 +196,8 @@ module _ (tables : Tables) (es xs ys zs : List Event) (m c : ℕ) (low : c < mos
   children-done v = go (parent_of (reached tables up_to).transactions m) refl
     where
       go : (p : Parent) → parent_of (reached tables up_to).transactions m ≡ p → ChildrenDone (reached tables up_to) m
-      go Nobody e = ((commit-when tables up_to m e).0 v).children
-      go (Under k) e = ((hand-when tables up_to m k e).0 v).could.children
+      go None e = ((commit-when tables up_to m e).0 v).children
+      go (Some k) e = ((hand-when tables up_to m k e).0 v).could.children
 
   children_first : history tables es ≡ xs ++ (Spawn m c ∷ (ys ++ (Commit m ∷ zs))) → ends_in c ys ≡ true
   children_first q =
@@ -211,7 +211,7 @@ module _ (tables : Tables) (es xs ys zs : List Event) (m c : ℕ) (low : c < mos
       clash
       (rw (of-active (phase_of then.transactions c) last.0))
       (subst (λ (s : State). is_active (phase_of s.transactions c) ≡ false) then_is
-      (done c (subst⁻¹ (λ (s : State). parent_of s.transactions c ≡ Under m) then_is (last.1 ∙ there.1)))))
+      (done c (subst⁻¹ (λ (s : State). parent_of s.transactions c ≡ Some m) then_is (last.1 ∙ there.1)))))
 
   parent_lasts : history tables es ≡ xs ++ (Spawn m c ∷ (ys ++ (Commit c ∷ zs))) → ends_in m ys ≡ false
   unfolding run
@@ -220,7 +220,7 @@ module _ (tables : Tables) (es xs ys zs : List Event) (m c : ℕ) (low : c < mos
       let there = child-there first.accepted in
       let second = cut tables first.rest ys zs spawned-then (Commit c) first.later in
       let under = (keeps-by tables (Under-it tables c m) (under-kept tables c m) ys spawned-then (record { kin = kin-then; parent = there.1 })).parent in
-      let lasts = ((hand-when tables up_to c m (subst⁻¹ (λ (s : State). parent_of s.transactions c ≡ Under m) then_is under)).0
+      let lasts = ((hand-when tables up_to c m (subst⁻¹ (λ (s : State). parent_of s.transactions c ≡ Some m) then_is under)).0
       (subst⁻¹ (λ (s : State). (judged tables s (Commit c)).verdict ≡ Accepted) then_is second.accepted)).could.parent in
       is-not (ends_in m ys)
       (λ on. clash (ended_is (phase_of then.transactions m) (over-then first.rest first.later (ends_at m ys on))) (subst (λ (s : State). has_ended (phase_of s.transactions m) ≡ false) then_is lasts))

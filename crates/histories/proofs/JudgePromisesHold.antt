@@ -16,7 +16,7 @@ use Rattle.rules.specs.States.{is_active, phase_of}
 use Rattle.judge.specs.declared.Change.TheVariants.{Ends}
 use Rattle.terms.specs.declared.Event.{Event}
 use Rattle.terms.specs.declared.Event.TheVariants.{Abort, Commit}
-use Rattle.rules.specs.declared.Parent.{Parent}
+use Rattle.rules.specs.States.{Parent}
 use Rattle.rules.specs.declared.Phase.{Phase}
 use Rattle.rules.specs.declared.Phase.TheVariants.{Aborted, Committed}
 use Rattle.rules.specs.declared.State.{State}

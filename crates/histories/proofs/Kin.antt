@@ -14,8 +14,8 @@ use Rattle.ties.proofs.OrderLaws.{active-uncommitted}
 use Rattle.tables.specs.Sorts.{is_plain, sort_of}
 use Rattle.tables.specs.declared.Tables.{Tables}
 use Rattle.rules.specs.States.{empty_state, idle, is_child, parent_of, phase_of, spawned}
-use Rattle.rules.specs.declared.Parent.{Parent}
-use Rattle.rules.specs.declared.Parent.TheVariants.{Nobody, Under}
+use Rattle.rules.specs.States.{Parent}
+use Rattle.std.specs.Prelude.{None, Some}
 use Rattle.rules.specs.declared.Phase.TheVariants.{Active}
 use Rattle.rules.specs.declared.State.{State}
 use Rattle.rules.specs.declared.Transaction.{Transaction}
@@ -33,7 +33,7 @@ use Rattle.histories.proofs.Invariants.{lasting-kept, lasting-start}
 
 pub data Parented (tables : Tables) (s : State) (c : Change) (u : ℕ) : Type 0 where
   same-parent : parent_of (state_after c s).transactions u ≡ parent_of s.transactions u → Parented tables s c u
-  adopted-now : (m : ℕ) → Spawning tables s m u → phase_of (state_after c s).transactions u ≡ Active → parent_of (state_after c s).transactions u ≡ Under m → Parented tables s c u
+  adopted-now : (m : ℕ) → Spawning tables s m u → phase_of (state_after c s).transactions u ≡ Active → parent_of (state_after c s).transactions u ≡ Some m → Parented tables s c u
 
 pub parented : (tables : Tables) (s : State) (c : Change) → Step tables s c → (u : ℕ) → Parented tables s c u
 unfolding state_after
@@ -61,14 +61,14 @@ parented tables s c (spawns m t f) u =
 -- ---- who is a child
 
 pub record Kin (tables : Tables) (s : State) : Type 0 where
-  pub plain : (t m : ℕ) → parent_of s.transactions t ≡ Under m → (is_plain (sort_of tables t) ≡ true) × (is_plain (sort_of tables m) ≡ true)
-  pub begun : (t m : ℕ) → parent_of s.transactions t ≡ Under m → (1 ≤ code (phase_of s.transactions t)) × (1 ≤ code (phase_of s.transactions m))
+  pub plain : (t m : ℕ) → parent_of s.transactions t ≡ Some m → (is_plain (sort_of tables t) ≡ true) × (is_plain (sort_of tables m) ≡ true)
+  pub begun : (t m : ℕ) → parent_of s.transactions t ≡ Some m → (1 ≤ code (phase_of s.transactions t)) × (1 ≤ code (phase_of s.transactions m))
 
 -- nobody is not a parent
-pub nobody-under : (m : ℕ) → Nobody ≡ Under m → ⊥
+pub nobody-under : (m : ℕ) → None ≡ Some m → ⊥
 nobody-under m e = let z : ◌≡◌ {A = ℕ} 0 1 = cc in omega arith
 
-same-clerk : (m n : ℕ) → Under m ≡ Under n → m ≡ n
+same-clerk : (m n : ℕ) → Some m ≡ Some n → m ≡ n
 same-clerk m n e = cc
 
 module _ (tables : Tables) (s : State) (c : Change) (h : Kin tables s) (w : Step tables s c) where
@@ -78,12 +78,12 @@ module _ (tables : Tables) (s : State) (c : Change) (h : Kin tables s) (w : Step
   pub kin-after : Kin tables (state_after c s)
   kin-after = record { plain = λ t m e. plain t m e (parented tables s c w t); begun = λ t m e. begun t m e (parented tables s c w t) }
     where
-      plain : (t m : ℕ) → parent_of (state_after c s).transactions t ≡ Under m → Parented tables s c t → (is_plain (sort_of tables t) ≡ true) × (is_plain (sort_of tables m) ≡ true)
+      plain : (t m : ℕ) → parent_of (state_after c s).transactions t ≡ Some m → Parented tables s c t → (is_plain (sort_of tables t) ≡ true) × (is_plain (sort_of tables m) ≡ true)
       plain t m e (same-parent q) = h.plain t m (sym q ∙ e)
       plain t m e (adopted-now n f a q) =
           (f.child, ap (λ (x : ℕ). is_plain (sort_of tables x)) (same-clerk m n (sym e ∙ q)) ∙ f.parent)
 
-      begun : (t m : ℕ) → parent_of (state_after c s).transactions t ≡ Under m → Parented tables s c t
+      begun : (t m : ℕ) → parent_of (state_after c s).transactions t ≡ Some m → Parented tables s c t
           → (1 ≤ code (phase_of (state_after c s).transactions t)) × (1 ≤ code (phase_of (state_after c s).transactions m))
       begun t m e (same-parent q) = let b = h.begun t m (sym q ∙ e) in (omega (arith, b.0, up t), omega (arith, b.1, up m))
       begun t m e (adopted-now n f a q) =
@@ -95,7 +95,7 @@ kin-kept tables s c h w = kin-after tables s c h w
 pub kin-start : (tables : Tables) → Kin tables empty_state
 kin-start tables = record { plain = λ t m e. absurd (none t m e); begun = λ t m e. absurd (none t m e) }
   where
-    none : (t m : ℕ) → parent_of empty_state.transactions t ≡ Under m → ⊥
+    none : (t m : ℕ) → parent_of empty_state.transactions t ≡ Some m → ⊥
     none t m e = nobody-under m (sym (all-free t) ∙ e)
 
 pub kin : (tables : Tables) (es : List Event) → Kin tables (reached tables es)
@@ -106,8 +106,8 @@ pub clerk-is : (tables : Tables) (s : State) → Kin tables s → (t : ℕ) → 
 clerk-is tables s h t = go (parent_of s.transactions t) refl
   where
     go : (p : Parent) → parent_of s.transactions t ≡ p → clerk_of tables s.transactions t ≡ parent_of s.transactions t
-    go Nobody e = rw e (bool_cases (is_plain (sort_of tables t)) (λ b. rw b) (λ b. rw b))
-    go (Under m) e = let both = h.plain t m e in rw (both.0, e, both.1)
+    go None e = rw e (bool_cases (is_plain (sort_of tables t)) (λ b. rw b) (λ b. rw b))
+    go (Some m) e = let both = h.plain t m e in rw (both.0, e, both.1)
 
 -- ---- what a child holds
 

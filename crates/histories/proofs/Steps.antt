@@ -27,8 +27,8 @@ use Rattle.judge.specs.declared.Change.{Change}
 use Rattle.judge.specs.declared.Change.TheVariants.{Ends, EndsOne, Enters, Gives, Hands, Makes, Spawns}
 use Rattle.terms.specs.declared.Event.{Event}
 use Rattle.terms.specs.declared.Event.TheVariants.{Abort, AbortOne, Begin, Commit, CommitOne, Delegate, Operation as Invoke, Spawn}
-use Rattle.rules.specs.declared.Parent.{Parent}
-use Rattle.rules.specs.declared.Parent.TheVariants.{Nobody, Under}
+use Rattle.rules.specs.States.{Parent}
+use Rattle.std.specs.Prelude.{None, Some}
 use Rattle.rules.specs.declared.Phase.{Phase}
 use Rattle.rules.specs.declared.Phase.TheVariants.{Aborted, Active, Committed, Idle}
 use Rattle.rules.specs.declared.State.{State}
@@ -153,13 +153,13 @@ module _ (tables : Tables) (s : State) where
   commit-off t =
       by-clerk tables s.transactions t (λ (p : Parent). Off (commit_lines_under tables s.transactions s.ops t p) → Step (commit_under t p)) own-off handed-off
     where
-      own-off : clerk_of tables s.transactions t ≡ Nobody → Off (commit_lines_under tables s.transactions s.ops t Nobody) → Step (commit_under t Nobody)
+      own-off : clerk_of tables s.transactions t ≡ None → Off (commit_lines_under tables s.transactions s.ops t None) → Step (commit_under t None)
       own-off own (known, (active, (rule, (bars, (clean, (no_ring, u)))))) =
           let both = off-or (declared_bars false tables s.transactions t) (awaits_child tables s.transactions t) bars in
           ends t Committed FateCommitted
           (record { active = running t active; ended = omega arith; gone = refl; keeps = λ k. ap is_child own; rule = (rule, both.0, clean, no_ring, both.1) })
 
-      handed-off : (m : ℕ) → Helps tables s.transactions t m → Off (commit_lines_under tables s.transactions s.ops t (Under m)) → Step (commit_under t (Under m))
+      handed-off : (m : ℕ) → Helps tables s.transactions t m → Off (commit_lines_under tables s.transactions s.ops t (Some m)) → Step (commit_under t (Some m))
       handed-off m helps (known, (active, (bars, (no_ring, u)))) =
           let both = off-or (declared_bars false tables s.transactions t) (awaits_child tables s.transactions t || inactive s.transactions m) bars in
           let rest = off-or (awaits_child tables s.transactions t) (inactive s.transactions m) both.1 in
@@ -226,10 +226,10 @@ commit-enters tables s t =
     by-clerk tables s.transactions t (λ (p : Parent). (state_after (commit_under t p) s).transactions ≡ entered Committed t s.transactions) (λ o. refl) (λ m h. refl)
 
 -- whoever is not plain is nobody's child
-pub nobodys : (tables : Tables) (s : State) (t : ℕ) → is_plain (sort_of tables t) ≡ false → clerk_of tables s.transactions t ≡ Nobody
+pub nobodys : (tables : Tables) (s : State) (t : ℕ) → is_plain (sort_of tables t) ≡ false → clerk_of tables s.transactions t ≡ None
 nobodys tables s t e = rw e
 
-pub commit-ending : (tables : Tables) (s : State) (t : ℕ) → clerk_of tables s.transactions t ≡ Nobody → (judged tables s (Commit t)).verdict ≡ Accepted
+pub commit-ending : (tables : Tables) (s : State) (t : ℕ) → clerk_of tables s.transactions t ≡ None → (judged tables s (Commit t)).verdict ≡ Accepted
     → Ending tables s t Committed FateCommitted
 commit-ending tables s t e v = ending tables s (subst (λ (p : Parent). Step tables s (commit_under t p)) e (step tables s (Commit t) v))
 

@@ -1,5 +1,5 @@
 -- Many events one after the other: "Take events in any order and drop the refused ones."
-use Rattle.std.specs.Prelude.{ℕ, suc, Bool, true, false, cond, List, [], ◌∷◌, eqb, ltb}
+use Rattle.std.specs.Prelude.{ℕ, suc, Bool, true, false, cond, List, [], ◌∷◌, eqb, ltb, None, Some}
 use Rattle.terms.specs.declared.Verdict.{Verdict}
 use Rattle.terms.specs.declared.Verdict.TheVariants.{Accepted, Refused}
 use Rattle.terms.specs.declared.Mark.{Mark}
@@ -8,8 +8,7 @@ use Rattle.ties.specs.Operations.{is_active, size}
 use Rattle.ties.specs.declared.Fate.{Fate}
 use Rattle.ties.specs.declared.Fate.TheVariants.{Aborted as FateAborted, Active as FateActive, Committed as FateCommitted}
 use Rattle.tables.specs.declared.Tables.{Tables}
-use Rattle.rules.specs.declared.Parent.{Parent}
-use Rattle.rules.specs.declared.Parent.TheVariants.{Nobody, Under}
+use Rattle.rules.specs.States.{Parent}
 use Rattle.rules.specs.declared.Phase.{Phase}
 use Rattle.rules.specs.declared.Phase.TheVariants.{Aborted, Active, Committed, Idle}
 use Rattle.rules.specs.declared.State.{State}
@@ -59,7 +58,7 @@ pub record Account : Type 0 where
   pub deed : ℕ → Deed
 
 abbrev pub no_account : Account
-no_account = record { phase = λ t. Idle; parent = λ t. Nobody; made = 0; deed = λ q. record { object = 0; mark = Read; whose = 0; fate = FateActive } }
+no_account = record { phase = λ t. Idle; parent = λ t. None; made = 0; deed = λ q. record { object = 0; mark = Read; whose = 0; fate = FateActive } }
 
 -- t is in another phase from now on
 abbrev pub moved : Phase → ℕ → Account → Account
@@ -67,7 +66,7 @@ moved p t a = record { phase = λ u. cond (eqb u t) p (a.phase u); parent = a.pa
 
 -- t is m's child from now on
 abbrev pub adopted : ℕ → ℕ → Account → Account
-adopted m t a = record { phase = a.phase; parent = λ u. cond (eqb u t) (Under m) (a.parent u); made = a.made; deed = a.deed }
+adopted m t a = record { phase = a.phase; parent = λ u. cond (eqb u t) (Some m) (a.parent u); made = a.made; deed = a.deed }
 
 -- the next operation is t's
 abbrev pub invoked : ℕ → ℕ → Mark → Account → Account
@@ -99,8 +98,8 @@ to_fate fate d = record { object = d.object; mark = d.mark; whose = d.whose; fat
 
 -- "Its commit hands its active operations to the parent instead of ending them"
 abbrev pub kept : ℕ → Parent → Account → Account
-kept t Nobody a = retell (of_the t) (to_fate FateCommitted) a
-kept t (Under m) a = retell (of_the t) (to_receiver m) a
+kept t None a = retell (of_the t) (to_fate FateCommitted) a
+kept t (Some m) a = retell (of_the t) (to_receiver m) a
 
 abbrev pub recounted : Event → Account → Account
 recounted (Begin t) a = moved Active t a

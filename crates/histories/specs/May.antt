@@ -1,6 +1,6 @@
 -- When a begin, an operation, a delegation, a commit and an abort are accepted, and when 15, 16, 17 and 22 refuse: once more in the words of the rules, without the lists of lines,
 -- and which pairs a new operation adds to the order.
-use Rattle.std.specs.Prelude.{ℕ, ◌<◌, ◌≡◌, true, false, ◌↔◌, ◌≢◌, ◌⊎◌, List}
+use Rattle.std.specs.Prelude.{ℕ, ◌<◌, ◌≡◌, true, false, ◌↔◌, ◌≢◌, ◌⊎◌, List, None, Some}
 use Rattle.terms.specs.Events.{is_write}
 use Rattle.terms.specs.Limits.{most_objects, most_transactions}
 use Rattle.terms.specs.declared.Event.{Event}
@@ -16,7 +16,6 @@ use Rattle.tables.specs.Sorts.{is_known, is_plain, is_saga, is_undo, sort_of}
 use Rattle.tables.specs.declared.Tables.{Tables}
 use Rattle.rules.specs.Rules.{abort_barred, begin_barred, commit_barred, declared_bars}
 use Rattle.rules.specs.States.{has_ended, is_active, is_idle, parent_of, phase_of}
-use Rattle.rules.specs.declared.Parent.TheVariants.{Nobody, Under}
 use Rattle.rules.specs.declared.State.{State}
 use Rattle.judge.specs.Judge.{judged}
 use Rattle.histories.specs.Histories.{reached}
@@ -97,7 +96,7 @@ pub record MayDelegate (tables : Tables) (s : State) (t r q : ℕ) : Type 0 wher
 
 -- "A parent can't commit while a child is active": none of t's own children is
 abbrev pub ChildrenDone : State → ℕ → Type 0
-ChildrenDone s t = (c : ℕ) → parent_of s.transactions c ≡ Under t → is_active (phase_of s.transactions c) ≡ false
+ChildrenDone s t = (c : ℕ) → parent_of s.transactions c ≡ Some t → is_active (phase_of s.transactions c) ≡ false
 
 -- t is in the tables and active, the saga rules and the declared dependencies let it, and no child of its own is active; every write tied before a read t answers for is committed, or is active
 -- and t's; and t is on no ring
@@ -191,20 +190,20 @@ pub record AcceptedWhen (tables : Tables) (es : List Event) : Type 0 where
   pub delegate_rings : (t r q : ℕ) → ((judged tables (reached tables es) (Delegate t r q)).verdict ≡ Refused UndoOnRing)
       ↔ (CouldDelegate tables (reached tables es) t r q × RingsGiven tables (reached tables es) r q)
   -- who is nobody's child
-  pub commit : (t : ℕ) → parent_of (reached tables es).transactions t ≡ Nobody
+  pub commit : (t : ℕ) → parent_of (reached tables es).transactions t ≡ None
       → ((judged tables (reached tables es) (Commit t)).verdict ≡ Accepted) ↔ MayCommit tables (reached tables es) t
   -- 15 exactly when there is a dirty read, and 16 exactly when there is none and t is on a ring
-  pub commit_dirty : (t : ℕ) → parent_of (reached tables es).transactions t ≡ Nobody → ((judged tables (reached tables es) (Commit t)).verdict ≡ Refused DirtyRead)
+  pub commit_dirty : (t : ℕ) → parent_of (reached tables es).transactions t ≡ None → ((judged tables (reached tables es) (Commit t)).verdict ≡ Refused DirtyRead)
       ↔ (CouldCommit tables (reached tables es) t × ReadsDirty (reached tables es).ops t)
-  pub commit_rings : (t : ℕ) → parent_of (reached tables es).transactions t ≡ Nobody → ((judged tables (reached tables es) (Commit t)).verdict ≡ Refused OnRing)
+  pub commit_rings : (t : ℕ) → parent_of (reached tables es).transactions t ≡ None → ((judged tables (reached tables es) (Commit t)).verdict ≡ Refused OnRing)
       ↔ (CouldCommit tables (reached tables es) t × (ReadsDirty (reached tables es).ops t → ⊥) × (on_ring (reached tables es).ops t ≡ true))
   -- m's child: 22 exactly when it would put an active undo on a ring, and never 15 or 16
-  pub hand : (t m : ℕ) → parent_of (reached tables es).transactions t ≡ Under m
+  pub hand : (t m : ℕ) → parent_of (reached tables es).transactions t ≡ Some m
       → ((judged tables (reached tables es) (Commit t)).verdict ≡ Accepted) ↔ MayHand tables (reached tables es) t m
-  pub hand_rings : (t m : ℕ) → parent_of (reached tables es).transactions t ≡ Under m
+  pub hand_rings : (t m : ℕ) → parent_of (reached tables es).transactions t ≡ Some m
       → ((judged tables (reached tables es) (Commit t)).verdict ≡ Refused UndoOnRing)
       ↔ (CouldHand tables (reached tables es) t m × UndoRinged tables (reached tables es) (before_handed (reached tables es).ops t m))
-  pub hand_clean : (t m : ℕ) → parent_of (reached tables es).transactions t ≡ Under m
+  pub hand_clean : (t m : ℕ) → parent_of (reached tables es).transactions t ≡ Some m
       → ((judged tables (reached tables es) (Commit t)).verdict ≢ Refused DirtyRead) × ((judged tables (reached tables es) (Commit t)).verdict ≢ Refused OnRing)
   pub spawn : (m c : ℕ) → ((judged tables (reached tables es) (Spawn m c)).verdict ≡ Accepted) ↔ MaySpawn tables (reached tables es) m c
   pub abort : (t : ℕ) → ((judged tables (reached tables es) (Abort t)).verdict ≡ Accepted) ↔ MayAbort tables (reached tables es) t

@@ -1,5 +1,5 @@
 -- What is promised of judging any run of events.
-use Rattle.std.specs.Prelude.{ℕ, ◌<◌, ◌≡◌, Bool, true, false, cond, not, ◌&&◌, eqb, ◌↔◌, ◌≢◌, List}
+use Rattle.std.specs.Prelude.{ℕ, ◌<◌, ◌≡◌, Bool, true, false, cond, not, ◌&&◌, eqb, ◌↔◌, ◌≢◌, List, None}
 use Rattle.terms.specs.Limits.{most_transactions}
 use Rattle.terms.specs.declared.Verdict.TheVariants.{Accepted}
 use Rattle.ties.specs.Operations.{is_aborted, is_active as is_active_operation, made, most_operations, new_op, op_at, size, held_by, ended_as}
@@ -13,7 +13,6 @@ use Rattle.sets.specs.Reach.{Leads}
 use Rattle.tables.specs.Circles.{begin_link}
 use Rattle.tables.specs.Sorts.{is_plain, sort_of}
 use Rattle.tables.specs.declared.Tables.{Tables}
-use Rattle.rules.specs.declared.Parent.TheVariants.{Nobody}
 use Rattle.rules.specs.declared.Phase.TheVariants.{Idle}
 use Rattle.rules.specs.declared.State.{State}
 use Rattle.terms.specs.declared.Event.{Event}
@@ -122,7 +121,7 @@ pub record AnyRun (tables : Tables) (es : List Event) : Type 0 where
   pub active : (q : ℕ) → q < size (reached tables es).ops → is_active_operation (op_at (reached tables es).ops q).fate ≡ true
       → is_active (phase_of (reached tables es).transactions (op_at (reached tables es).ops q).responsible) ≡ true
   -- "Commit or abort of t ends the active operations t is responsible for in the same way, and no others", but for the commit of a child
-  pub commits : (t : ℕ) → parent_of (reached tables es).transactions t ≡ Nobody → (judged tables (reached tables es) (Commit t)).verdict ≡ Accepted
+  pub commits : (t : ℕ) → parent_of (reached tables es).transactions t ≡ None → (judged tables (reached tables es) (Commit t)).verdict ≡ Accepted
       → EndsWith (reached tables es) (judged tables (reached tables es) (Commit t)).state t Committed
   pub aborts : (t : ℕ) → (judged tables (reached tables es) (Abort t)).verdict ≡ Accepted
       → EndsWith (reached tables es) (judged tables (reached tables es) (Abort t)).state t Aborted

@@ -1,23 +1,10 @@
--- What the contracts of the crate say of a case of an answer.
-use Rattle.std.proofs.Common.{◌≡◌, ℕ, ◌+◌, ◌≤◌, ◌<◌, List, ◌++◌, length, take, subst, sym, ap, ◌∙◌}
+-- What stands at the front of a room that is filled read by read.
+use Rattle.std.proofs.Common.{◌≡◌, ℕ, ◌+◌, ◌≤◌, List, ◌++◌, length, take, subst, sym, ap, ◌∙◌}
 use Rattle.std.proofs.Math.Seq.{take-append-add}
 use Rattle.std.proofs.lemmas.List.{take-append-le}
 use Rattle.std.specs.Io.KnownBytes.{Consumes}
 use Rattle.std.proofs.KnownBytes.{Consumes-trans}
 use Rattle.std.specs.declared.option.Option.{Option}
-use Rattle.input.specs.Filling.{Within, Fits}
-use Rattle.input.specs.declared.Filled.{Filled}
-use Rattle.input.specs.declared.Filled.TheVariants.{Whole}
-use Rattle.input.specs.declared.Got.{Got}
-use Rattle.input.specs.declared.Got.TheVariants.{Bytes}
-
--- what a room was filled with lies within it
-pub whole-within : (filled : Filled) (n : ℕ) (room : List ℕ) → filled ≡ Whole n → Within filled room → n ≤ length room
-whole-within filled n room is within = subst (λ (f : Filled). Within f room) is within
-
--- a read of n bytes moved at least one, and no more than its part holds
-pub bytes_fit : (got : Got) (n most : ℕ) → got ≡ Bytes n → Fits got most → (0 < n) × (n ≤ most)
-bytes_fit got n most is fits = subst (λ (g : Got). Fits g most) is fits
 
 -- the front of a room grows by what was read into the part behind it
 pub front_grows : (a b c : Option (List ℕ)) (front part rest : List ℕ) (done n : ℕ) → length front ≡ done → n ≤ length part → Consumes a b front → Consumes b c (take n part)

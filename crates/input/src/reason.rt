@@ -23,7 +23,7 @@ fn before_number(text: &str) -> &str {
     }
 }
 
-// Room for an error's text. What does not fit is left out; no text of the system's is as long.
+// Room for an error's text: an array and how much of it is written, since there is no heap. What does not fit is left out; no text of the system's is as long.
 #[derive(Drop)]
 struct Words {
     bytes: [u8; 128],
@@ -40,10 +40,7 @@ impl Words {
 
     fn as_str(&self) -> &str {
         let n = self.count.min(self.bytes.len());
-        match str::from_utf8(&self.bytes[..n]) {
-            Ok(text) => text,
-            Err(_) => "",
-        }
+        str::from_utf8(&self.bytes[..n]).unwrap_or("")
     }
 }
 

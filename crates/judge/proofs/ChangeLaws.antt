@@ -28,7 +28,7 @@ use Rattle.tables.specs.declared.Tables.{Tables}
 use Rattle.sheet.specs.Sheet.{Holds}
 use Rattle.rules.specs.Lent.{spawned_in, transactions_in}
 use Rattle.rules.specs.States.{empty_state, idle, spawned}
-use Rattle.rules.specs.declared.Parent.{Parent}
+use Rattle.rules.specs.States.{Parent}
 use Rattle.rules.specs.declared.Transaction.{Transaction}
 use Rattle.rules.specs.declared.Phase.TheVariants.{Committed}
 use Rattle.rules.specs.declared.State.{State}

@@ -8,8 +8,8 @@ use Rattle.tables.specs.declared.Sort.{Sort}
 use Rattle.tables.specs.declared.Sort.TheVariants.{Plain, Saga, Step, Undo, Unknown}
 use Rattle.tables.specs.declared.Tables.{Tables}
 use Rattle.rules.specs.States.{parent_of}
-use Rattle.rules.specs.declared.Parent.{Parent}
-use Rattle.rules.specs.declared.Parent.TheVariants.{Nobody, Under}
+use Rattle.rules.specs.States.{Parent}
+use Rattle.std.specs.Prelude.{None, Some}
 use Rattle.rules.specs.declared.Transaction.{Transaction}
 use Rattle.judge.specs.Judge.{clerk_of, plain_parent}
 
@@ -24,18 +24,18 @@ module _ (tables : Tables) (ts : List Transaction) (t : ℕ) where
   pub record Helps (m : ℕ) : Type 0 where
     pub helper : is_plain (sort_of tables t) ≡ true
     pub clerk : is_plain (sort_of tables m) ≡ true
-    pub told : parent_of ts t ≡ Under m
+    pub told : parent_of ts t ≡ Some m
 
-  module _ (A : Parent → Type 0) (none : clerk_of tables ts t ≡ Nobody → A Nobody) (some : (m : ℕ) → Helps m → A (Under m)) where
-    by-sort : (m : ℕ) → is_plain (sort_of tables t) ≡ true → parent_of ts t ≡ Under m → (b : Bool) → is_plain (sort_of tables m) ≡ b → A (cond b (Under m) Nobody)
+  module _ (A : Parent → Type 0) (none : clerk_of tables ts t ≡ None → A None) (some : (m : ℕ) → Helps m → A (Some m)) where
+    by-sort : (m : ℕ) → is_plain (sort_of tables t) ≡ true → parent_of ts t ≡ Some m → (b : Bool) → is_plain (sort_of tables m) ≡ b → A (cond b (Some m) None)
     by-sort m plain told true e = some m (record { helper = plain; clerk = e; told = told })
     by-sort m plain told false e = none (rw (plain, told, e))
 
     by-parent : is_plain (sort_of tables t) ≡ true → (p : Parent) → parent_of ts t ≡ p → A (plain_parent tables p)
-    by-parent plain Nobody told = none (rw (plain, told))
-    by-parent plain (Under m) told = by-sort m plain told (is_plain (sort_of tables m)) refl
+    by-parent plain None told = none (rw (plain, told))
+    by-parent plain (Some m) told = by-sort m plain told (is_plain (sort_of tables m)) refl
 
-    by-plain : (b : Bool) → is_plain (sort_of tables t) ≡ b → A (cond b (plain_parent tables (parent_of ts t)) Nobody)
+    by-plain : (b : Bool) → is_plain (sort_of tables t) ≡ b → A (cond b (plain_parent tables (parent_of ts t)) None)
     by-plain true e = by-parent e (parent_of ts t) refl
     by-plain false e = none (rw e)
 

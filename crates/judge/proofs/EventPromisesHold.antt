@@ -21,7 +21,7 @@ use Rattle.ties.proofs.OpsLaws.{made_at, made-full, made-room, rewritten-at}
 use Rattle.tables.specs.Sorts.{is_plain, sort_of}
 use Rattle.tables.specs.declared.Tables.{Tables}
 use Rattle.rules.specs.States.{entered, is_child, phase_of}
-use Rattle.rules.specs.declared.Parent.{Parent}
+use Rattle.rules.specs.States.{Parent}
 use Rattle.rules.specs.declared.Phase.{Phase}
 use Rattle.rules.specs.declared.Transaction.{Transaction}
 use Rattle.rules.specs.declared.Phase.TheVariants.{Aborted, Active, Committed}

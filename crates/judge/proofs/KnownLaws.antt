@@ -25,7 +25,7 @@ use Rattle.ties.specs.declared.Ops.{Ops}
 use Rattle.tables.specs.declared.Tables.{Tables}
 use Rattle.rules.specs.declared.State.{State}
 use Rattle.rules.specs.States.{is_child}
-use Rattle.rules.specs.declared.Parent.{Parent}
+use Rattle.rules.specs.States.{Parent}
 use Rattle.judge.specs.Judge.{clerk_of, commit_lines, commit_lines_under, hand_lines, judged, single_lines, verdict_by}
 use Rattle.judge.specs.Known.{Ringed, with_committer}
 use Rattle.judge.proofs.ClerkLaws.{by-clerk}

@@ -57,10 +57,10 @@ ruled-stopped ls change e = ap (ruled_as change) (stopped Refused Accepted ls e)
 -- ---- lines that several events share, and an event's own after them; v is the answer of those that are shared
 
 module _ (shared own : List (Line Refusal)) (change : Change) {v : Verdict} (told : v ≡ verdict_by shared) where
-  pub shared-refused : (r : Refusal) → v ≡ Refused r → record { verdict = v; change = Nothing } ≡ ruled_by (shared ++ own) change
+  pub shared-refused : (r : Refusal) → v ≡ Refused r → record { verdict = Refused r; change = Nothing } ≡ ruled_by (shared ++ own) change
   shared-refused r e =
       let stays : verdict_by (shared ++ own) ≡ Refused r = first-stays Refused Accepted not-accepted r shared own (sym told ∙ e) in
-      ap (λ (x : Verdict). record { verdict = x; change = Nothing }) e ∙ sym (ap (λ (x : Verdict). record { verdict = x; change = change_by x change }) stays)
+      sym (ap (λ (x : Verdict). record { verdict = x; change = change_by x change }) stays)
 
   pub shared-passed : v ≡ Accepted → ruled_by (shared ++ own) change ≡ ruled_by own change
   shared-passed e =

@@ -1,6 +1,6 @@
 -- Judging one event (docs/RULES.md, 4 Refusals): for each event one list of lines in the order of judging; the verdict is the first
 -- line that holds; what an accepted event changes; the state after it.
-use Rattle.std.specs.Prelude.{ℕ, Bool, true, false, cond, not, ◌&&◌, ◌||◌, List, [], ◌∷◌, ◌++◌, ltb, leb, eqb}
+use Rattle.std.specs.Prelude.{ℕ, Bool, true, false, cond, not, ◌&&◌, ◌||◌, List, [], ◌∷◌, ◌++◌, ltb, leb, eqb, None, Some}
 use Rattle.laws.specs.Lines.{Line, line, first_line}
 use Rattle.terms.specs.declared.Refusal.{Refusal}
 use Rattle.terms.specs.declared.Refusal.TheVariants.{NotInTables, NeverDoes, NotIdle, NotActive, NotResponsible, SagaRule, DependencyRule, DirtyRead, OnRing, MustWait, Full, AlreadyEnded, UndoOnRing}
@@ -16,8 +16,7 @@ use Rattle.tables.specs.Sorts.{sort_of, is_known, is_saga, is_undo, is_plain}
 use Rattle.tables.specs.declared.Sort.{Sort}
 use Rattle.tables.specs.declared.Tables.{Tables}
 use Rattle.rules.specs.declared.Phase.TheVariants.{Active, Committed, Aborted}
-use Rattle.rules.specs.declared.Parent.{Parent}
-use Rattle.rules.specs.declared.Parent.TheVariants.{Nobody, Under}
+use Rattle.rules.specs.States.{Parent}
 use Rattle.rules.specs.declared.Transaction.{Transaction}
 use Rattle.rules.specs.declared.State.{State}
 use Rattle.terms.specs.declared.Event.{Event}
@@ -43,12 +42,12 @@ no_party x = is_saga x || is_undo x
 
 -- "sagas can't be parents or children": only a plain transaction is one, whatever lent numbers say
 abbrev pub plain_parent : Tables → Parent → Parent
-plain_parent tables Nobody = Nobody
-plain_parent tables (Under m) = cond (is_plain (sort_of tables m)) (Under m) Nobody
+plain_parent tables None = None
+plain_parent tables (Some m) = cond (is_plain (sort_of tables m)) (Some m) None
 
 -- whose helper t is
 abbrev pub clerk_of : Tables → List Transaction → ℕ → Parent
-clerk_of tables ts t = cond (is_plain (sort_of tables t)) (plain_parent tables (parent_of ts t)) Nobody
+clerk_of tables ts t = cond (is_plain (sort_of tables t)) (plain_parent tables (parent_of ts t)) None
 
 -- "A parent can't commit while a child is active"
 abbrev pub awaits_child : Tables → List Transaction → ℕ → Bool
@@ -85,8 +84,8 @@ hand_lines tables ts ops t m =
     ∷ []
 
 abbrev pub commit_lines_under : Tables → List Transaction → Ops → ℕ → Parent → List (Line Refusal)
-commit_lines_under tables ts ops t Nobody = commit_lines tables ts ops t
-commit_lines_under tables ts ops t (Under m) = hand_lines tables ts ops t m
+commit_lines_under tables ts ops t None = commit_lines tables ts ops t
+commit_lines_under tables ts ops t (Some m) = hand_lines tables ts ops t m
 
 -- "spawn, with an active plain parent and an idle plain child"; "A child's begin-kind dependencies are judged at the spawn."
 abbrev pub spawn_lines : Tables → List Transaction → ℕ → ℕ → List (Line Refusal)
@@ -161,8 +160,8 @@ verdict_by ls = first_line Refused Accepted ls
 
 -- a commit keeps what t is at work on, or hands it to the clerk whose helper t is
 abbrev pub commit_under : ℕ → Parent → Change
-commit_under t Nobody = Ends t Committed FateCommitted
-commit_under t (Under m) = Hands t m
+commit_under t None = Ends t Committed FateCommitted
+commit_under t (Some m) = Hands t m
 
 abbrev pub change_of : Tables → List Transaction → Event → Change
 change_of tables ts (Begin t) = Enters t Active

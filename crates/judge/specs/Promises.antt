@@ -1,5 +1,5 @@
 -- What is promised of judging one event, in any state.
-use Rattle.std.specs.Prelude.{ℕ, ◌+◌, ◌<◌, ◌≡◌, Bool, true, false, cond, ◌↔◌, ◌≢◌, List, [], ◌∷◌, map, eqb, length}
+use Rattle.std.specs.Prelude.{ℕ, ◌+◌, ◌<◌, ◌≡◌, Bool, true, false, cond, ◌↔◌, ◌≢◌, List, [], ◌∷◌, map, eqb, length, Some}
 use Rattle.laws.specs.Lines.{FirstIs, Line, Off}
 use Rattle.terms.specs.Refusals.{number_of}
 use Rattle.terms.specs.declared.Event.{Event}
@@ -12,7 +12,6 @@ use Rattle.ties.specs.Operations.{held_by, most_operations, op_at, passed_to, si
 use Rattle.ties.specs.declared.Fate.TheVariants.{Active as FateActive}
 use Rattle.tables.specs.declared.Tables.{Tables}
 use Rattle.rules.specs.States.{parent_of, phase_of}
-use Rattle.rules.specs.declared.Parent.TheVariants.{Under}
 use Rattle.rules.specs.declared.Phase.TheVariants.{Aborted, Active, Committed}
 use Rattle.rules.specs.declared.State.{State}
 use Rattle.judge.specs.Judge.{clerk_of, judged, lines}
@@ -63,7 +62,7 @@ pub record Does (tables : Tables) (s : State) : Type 0 where
   -- spawn: the child is active, under its parent
   pub spawns : (m c : ℕ) → c < length s.transactions → (judged tables s (Spawn m c)).verdict ≡ Accepted
       → (phase_of (judged tables s (Spawn m c)).state.transactions c ≡ Active)
-      × (parent_of (judged tables s (Spawn m c)).state.transactions c ≡ Under m)
+      × (parent_of (judged tables s (Spawn m c)).state.transactions c ≡ Some m)
 
 -- ---- what an event does not name stays
 
@@ -106,14 +105,14 @@ pub record Frame (n : Names) (s next : State) : Type 0 where
 
 pub record Helpers (tables : Tables) (s : State) : Type 0 where
   -- "Its commit hands its active operations to the parent instead of ending them", and no others
-  pub hands : (t m : ℕ) → clerk_of tables s.transactions t ≡ Under m → (judged tables s (Commit t)).verdict ≡ Accepted
+  pub hands : (t m : ℕ) → clerk_of tables s.transactions t ≡ Some m → (judged tables s (Commit t)).verdict ≡ Accepted
       → (q : ℕ) → q < size s.ops
       → op_at (judged tables s (Commit t)).state.ops q ≡ cond (held_by t (op_at s.ops q)) (passed_to m (op_at s.ops q)) (op_at s.ops q)
   -- "so 15 and 16 aren't judged then"
-  pub clean : (t m : ℕ) → clerk_of tables s.transactions t ≡ Under m
+  pub clean : (t m : ℕ) → clerk_of tables s.transactions t ≡ Some m
       → ((judged tables s (Commit t)).verdict ≢ Refused DirtyRead) × ((judged tables s (Commit t)).verdict ≢ Refused OnRing)
   -- no child commits one of its operations
-  pub no_single : (t m q : ℕ) → clerk_of tables s.transactions t ≡ Under m → (judged tables s (CommitOne t q)).verdict ≢ Accepted
+  pub no_single : (t m q : ℕ) → clerk_of tables s.transactions t ≡ Some m → (judged tables s (CommitOne t q)).verdict ≢ Accepted
 
 pub record EventPromises : Type 0 where
   pub one_event : (tables : Tables) (s : State) (e : Event) → OneEvent tables s e

@@ -58,7 +58,7 @@ module _ (tables : Tables) (s : State) where
       )
 
 -- what one saga owes at most, by its steps: also in tables that are not well formed
-by-steps : (p : Phase) (n : ℕ) (P : ℕ → Phase) → outstanding_by p n P ≤ 2 + 2 * n
+pub by-steps : (p : Phase) (n : ℕ) (P : ℕ → Phase) → outstanding_by p n P ≤ 2 + 2 * n
 by-steps Idle n P = omega arith
 by-steps Active n P = bool_cases (is_committed (P n)) (λ t. rw t (omega arith)) (λ t. rw t (omega (arith, to_undo-le n P)))
 by-steps Committed n P = omega arith

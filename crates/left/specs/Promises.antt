@@ -1,5 +1,5 @@
 -- What is promised of the sum that is kept, for all well-formed tables.
-use Rattle.std.specs.Prelude.{ℕ, ◌≤◌, ◌≡◌, true, List}
+use Rattle.std.specs.Prelude.{ℕ, ◌≤◌, ◌≡◌, true, List, Ok}
 use Rattle.terms.specs.Limits.{most_transactions}
 use Rattle.terms.specs.declared.Event.{Event}
 use Rattle.terms.specs.declared.Refusal.{Refusal}
@@ -10,7 +10,6 @@ use Rattle.tables.specs.Reading.{tables_by}
 use Rattle.tables.specs.Sorts.{first_of, steps_of}
 use Rattle.tables.specs.declared.Circles.{Circles}
 use Rattle.tables.specs.declared.Tables.{Tables}
-use Rattle.tables.specs.declared.TablesAnswer.TheVariants.{Read}
 use Rattle.rules.specs.States.{empty_state}
 use Rattle.rules.specs.declared.State.{State}
 use Rattle.judge.specs.Judge.{judged}
@@ -42,4 +41,4 @@ SumKept = (tables : Tables) → Well tables → KeepsSum tables
 
 -- so for all tables that reading accepts, circles permitted or not
 abbrev pub SumKeptRead : Type 0
-SumKeptRead = (circles : Circles) (ed : Edition) (s : List ℕ) (at : ℕ) → (tables_by circles ed s).answer ≡ Read at → KeepsSum (tables_by circles ed s).tables
+SumKeptRead = (circles : Circles) (ed : Edition) (s : List ℕ) (at : ℕ) → (tables_by circles ed s).answer ≡ Ok at → KeepsSum (tables_by circles ed s).tables

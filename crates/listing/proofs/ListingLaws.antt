@@ -1,13 +1,13 @@
 -- Laws of the listing: which line is which, that every line fits a text, and what putting a line into a room does.
 use Prim.Native.Nat.{ℕ, ◌-◌, ◌≤◌, ◌<◌}
-use mathlib.Core.Path.{◌≡◌, refl, sym, ap, ◌∙◌}
+use mathlib.Core.Path.{◌≡◌, ◌∙◌}
 use mathlib.Core.Bool.{Bool, true, false, cond}
 use mathlib.Core.List.{List, []}
 use native.Mathlib.Omega.{arith}
 use borrow.Author.Tests.{lt-ltb, le-ltb, le-leb, lt-leb, eq-eqb, ne_eqb}
 use lib.Dec.{ltb, eqb}
 use lib.ListN.{length, length-append, get_or}
-use Rattle.laws.proofs.Decisions.{lt-or}
+use Rattle.std.specs.Prelude.{Err}
 use Rattle.terms.specs.Refusals.{number_of}
 use Rattle.terms.specs.declared.Verdict.{Verdict}
 use Rattle.terms.specs.declared.Verdict.TheVariants.{Accepted, Refused}
@@ -26,14 +26,11 @@ use Rattle.closing.specs.Closing.{outstanding, closing}
 use Rattle.closing.specs.declared.NextStep.{NextStep}
 use Rattle.closing.specs.declared.NextStep.TheVariants.{NoStep, ToBegin, ToCommit, ToAbort}
 use Rattle.onward.specs.declared.Judgement.{Judgement}
-use Rattle.onward.specs.declared.No.{No}
 use Rattle.tables.specs.Counts.{transaction_count}
-use Rattle.listing.specs.declared.Put.{Put}
-use Rattle.listing.specs.declared.Put.TheVariants.{Wrote as PutWrote, NoRoom as PutNoRoom}
-use Rattle.listing.specs.declared.Placed.TheVariants.{Wrote, NoLine}
+use Rattle.listing.specs.declared.NotPlaced.TheVariants.{NoLine}
 use Rattle.listing.specs.Texts.{most_text, put_answer, put_room, with_all}
-use Rattle.listing.specs.Lines.{phase_word, fate_word, mark_word, step_words, first_line_by, transaction_line, operation_line_of, operation_line, saga_line, no_line, line_count, later_line, line_of, placed, place_answer, place_room}
-use Rattle.listing.proofs.TextLaws.{all-fits, put-fits, put-kept}
+use Rattle.listing.specs.Lines.{phase_word, fate_word, mark_word, step_words, first_line_by, transaction_line, operation_line_of, operation_line, saga_line, line_count, later_line, line_of, placed, place_answer, place_room}
+use Rattle.listing.proofs.TextLaws.{all-fits}
 use Rattle.listing.proofs.DigitLaws.{decimal-le}
 
 -- ---- which line is which
@@ -123,35 +120,13 @@ line-fits r k =
 pub line-whole : (r : Judgement) (k : ℕ) {l : List ℕ} → l ≡ with_all [] (line_of r k) → l ≡ line_of r k
 line-whole r k e = let h = line-fits r k in e ∙ all-fits [] (line_of r k) (omega arith)
 
-no-fits : (x : No) → length (no_line x) < most_text
-no-fits x = simp length-append (omega (arith, decimal-le x.index, decimal-le (number_of x.refusal)))
-
-pub no_size : (x : No) → (0 < length (no_line x)) × (length (no_line x) ≤ most_text)
-no_size x = let h = no-fits x in (simp length-append (omega arith), omega arith)
-
 -- ---- into a room
 
 module _ (r : Judgement) (k : ℕ) (room : List ℕ) where
-  pub place_none : line_count r ≤ k → (NoLine ≡ place_answer r k room) × (room ≡ place_room r k room)
+  pub place_none : line_count r ≤ k → (Err NoLine ≡ place_answer r k room) × (room ≡ place_room r k room)
   unfolding place_answer place_room
   place_none h = let t = le-leb (line_count r) k h in (rw t, rw t)
 
   pub place-there : k < line_count r → (placed (put_answer (line_of r k) room) ≡ place_answer r k room) × (put_room (line_of r k) room ≡ place_room r k room)
   unfolding place_answer place_room
   place-there h = let t = lt-leb (line_count r) k h in (rw t, rw t)
-
-  -- a lent room keeps its length
-  pub room-kept : length (place_room r k room) ≡ length room
-  room-kept =
-      lt-or k (line_count r) (λ l. sym (ap length (place-there l).1) ∙ put-kept (line_of r k) room) (λ h. sym (ap length (place_none h).1))
-
-  -- what was written fits the room
-  pub wrote-fits : (n : ℕ) → Wrote n ≡ place_answer r k room → n ≤ length room
-  wrote-fits n e =
-      lt-or k (line_count r)
-      (λ l. was-put (put_answer (line_of r k) room) refl (e ∙ sym (place-there l).0))
-      (λ h. let z : Wrote n ≡ NoLine = e ∙ sym (place_none h).0 in let f : ◌≡◌ {A = ℕ} 0 1 = cc in absurd (omega arith))
-    where
-      was-put : (a : Put) → a ≡ put_answer (line_of r k) room → Wrote n ≡ placed a → n ≤ length room
-      was-put (PutWrote m) q w = let same : n ≡ m = cc in omega (arith, put-fits (line_of r k) room m q)
-      was-put PutNoRoom q w = let f : ◌≡◌ {A = ℕ} 0 1 = cc in absurd (omega arith)

@@ -1,4 +1,5 @@
 -- How long a listing can be.
+use Rattle.std.specs.Prelude.{Ok, Err}
 use Prim.Native.Nat.{ℕ, zero, suc, ◌+◌, ◌*◌, ◌-◌, ◌≤◌, ◌<◌}
 use native.Mathlib.Omega.{arith}
 use mathlib.Core.Path.{◌≡◌, refl, ap, subst}
@@ -11,11 +12,9 @@ use Rattle.terms.proofs.RefusalLaws.{number-most}
 use Rattle.number.specs.declared.Edition.{Edition}
 use Rattle.items.specs.Items.{items_after}
 use Rattle.items.specs.declared.Item.{Item}
-use Rattle.tables.specs.Reading.{tables_by}
+use Rattle.tables.specs.Reading.{TablesAnswer, tables_by}
 use Rattle.tables.specs.declared.Circles.{Circles}
 use Rattle.tables.specs.declared.Tables.{Tables}
-use Rattle.tables.specs.declared.TablesAnswer.{TablesAnswer}
-use Rattle.tables.specs.declared.TablesAnswer.TheVariants.{Read, Refused}
 use Rattle.rules.specs.States.{empty_state}
 use Rattle.rules.specs.declared.State.{State}
 use Rattle.walk.specs.Walk.{state_then}
@@ -68,11 +67,11 @@ none-short e = rw e (omega arith)
 
 module _ (circles : Circles) (ed : Edition) (s : List ℕ) where
   by_answer : length s ≤ most_bytes → (a : TablesAnswer) → (tables_by circles ed s).answer ≡ a → length (no_lines (refused_by circles ed s)) ≤ most_no_bytes
-  by_answer short (Read at) e =
+  by_answer short (Ok at) e =
       let few = few-items ed s at in
       subst (λ (l : List No). length (no_lines l) ≤ most_no_bytes) (refused-there circles ed s short (tables_by circles ed s) refl at e)
       (omega (arith, nos-short (tables_by circles ed s).tables (items_after ed s at) empty_state 0 (omega arith)))
-  by_answer short (Refused r p) e = none-short (refused_none circles ed s short (tables_by circles ed s) refl r p e)
+  by_answer short (Err f) e = none-short (refused_none circles ed s short (tables_by circles ed s) refl f.refusal f.place e)
 
   pub nos-of-book : length (no_lines (refused_by circles ed s)) ≤ most_no_bytes
   nos-of-book =

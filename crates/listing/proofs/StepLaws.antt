@@ -12,10 +12,10 @@ use Rattle.listing.specs.Lines.{line_count, line_of, lines_from, listing_of, no_
 
 -- ---- of refused events, n of them
 
-pub nos-step : (n : ℕ) (x : No) (l : List No) → 0 < n → no_lines (take n (x ∷ l)) ≡ no_line x ++ no_lines (take (n - 1) l)
+pub nos-next : (n m : ℕ) (x : No) (l : List No) → 0 < n → n - 1 ≡ m → no_lines (take n (x ∷ l)) ≡ no_line x ++ no_lines (take m l)
 unfolding no_lines
-nos-step zero x l h = absurd (omega arith)
-nos-step (suc n) x l h = let less : n ≡ suc n - 1 = omega arith in ap (λ (i : ℕ). no_line x ++ no_lines (take i l)) less
+nos-next zero m x l h e = absurd (omega arith)
+nos-next (suc n) m x l h e = let less : n ≡ m = omega arith in ap (λ (i : ℕ). no_line x ++ no_lines (take i l)) less
 
 pub nos-none : (n : ℕ) {l : List No} → l ≡ [] → no_lines (take n l) ≡ []
 unfolding no_lines

@@ -7,9 +7,9 @@ use native.Mathlib.Omega.{arith}
 use borrow.Author.Tests.{lt-ltb, le-ltb}
 use lib.ListN.{length, take, drop, get_or, set, length-append, length-drop, length-take}
 use lib.Seq.{take-suc-set, length-take-le, take_all}
+use Rattle.std.specs.Prelude.{Option, Some, None}
 use Rattle.laws.proofs.Decisions.{lt-or}
 use Rattle.laws.proofs.ListLaws.{front-suc}
-use Rattle.listing.specs.declared.Put.TheVariants.{Wrote, NoRoom}
 use Rattle.listing.specs.declared.Text.{Text}
 use Rattle.listing.specs.Texts.{most_text, put_answer, put_room, text_of, with_byte, with_all}
 
@@ -80,15 +80,15 @@ text-front t n e h =
     (λ b. take_all n t.bytes (omega arith) ∙ sym (take_all t.len t.bytes (omega arith)))
 
 module _ (l room : List ℕ) where
-  pub put_small : length room < length l → (NoRoom ≡ put_answer l room) × (room ≡ put_room l room)
+  pub put_small : length room < length l → (None ≡ put_answer l room) × (room ≡ put_room l room)
   unfolding put_answer put_room
   put_small h = let t = lt-ltb (length room) (length l) h in (rw t, rw t)
 
-  pub put-done : (n : ℕ) → n ≡ length l → n ≤ length room → (Wrote n ≡ put_answer l room) × (l ++ drop n room ≡ put_room l room)
+  pub put-done : (n : ℕ) → n ≡ length l → n ≤ length room → (Some n ≡ put_answer l room) × (l ++ drop n room ≡ put_room l room)
   unfolding put_answer put_room
   put-done n d h =
       let t = le-ltb (length room) (length l) (omega arith) in
-      (rw t (ap Wrote d), rw t (ap (λ (i : ℕ). l ++ drop i room) d))
+      (rw t (ap Some d), rw t (ap (λ (i : ℕ). l ++ drop i room) d))
 
   -- a lent room keeps its length
   pub put-kept : length (put_room l room) ≡ length room
@@ -98,8 +98,8 @@ module _ (l room : List ℕ) where
       (λ h. sym (ap length (put-done (length l) refl h).1) ∙ (length-append l (drop (length l) room) ∙ omega (arith, length-drop (length l) room)))
 
   -- what was written fits the room
-  pub put-fits : (n : ℕ) → Wrote n ≡ put_answer l room → n ≤ length room
+  pub put-fits : (n : ℕ) → Some n ≡ put_answer l room → n ≤ length room
   put-fits n e =
       lt-or (length room) (length l)
-      (λ h. let z : Wrote n ≡ NoRoom = e ∙ sym (put_small h).0 in let f : ◌≡◌ {A = ℕ} 0 1 = cc in absurd (omega arith))
-      (λ h. let z : Wrote n ≡ Wrote (length l) = e ∙ sym (put-done (length l) refl h).0 in let same : n ≡ length l = cc in omega arith)
+      (λ h. let z : ◌≡◌ {A = Option ℕ} (Some n) None = e ∙ sym (put_small h).0 in let f : ◌≡◌ {A = ℕ} 0 1 = cc in absurd (omega arith))
+      (λ h. let z : ◌≡◌ {A = Option ℕ} (Some n) (Some (length l)) = e ∙ sym (put-done (length l) refl h).0 in let same : n ≡ length l = cc in omega arith)

@@ -1,5 +1,5 @@
 -- Demand 3, said of books: of the state to which each way of reading comes.
-use Rattle.std.specs.Prelude.{ℕ, ◌*◌, ◌≤◌, ◌<◌, ◌≡◌, true, ◌↔◌, ◌≢◌, ◌⊎◌, List, length}
+use Rattle.std.specs.Prelude.{ℕ, ◌*◌, ◌≤◌, ◌<◌, ◌≡◌, true, ◌↔◌, ◌≢◌, ◌⊎◌, List, length, Ok}
 use Rattle.terms.specs.Limits.{most_bytes}
 use Rattle.terms.specs.declared.Event.{Event}
 use Rattle.number.specs.declared.Edition.{Edition}
@@ -8,7 +8,6 @@ use Rattle.tables.specs.Reading.{tables_by}
 use Rattle.tables.specs.Sorts.{first_of, steps_of}
 use Rattle.tables.specs.declared.Circles.{Circles}
 use Rattle.tables.specs.declared.Tables.{Tables}
-use Rattle.tables.specs.declared.TablesAnswer.TheVariants.{Read}
 use Rattle.rules.specs.declared.Phase.TheVariants.{Idle}
 use Rattle.rules.specs.declared.State.{State}
 use Rattle.histories.specs.Histories.{history, reached, run}
@@ -40,5 +39,5 @@ pub record SagasOfBook (circles : Circles) (ed : Edition) (s : List ℕ) (at i :
 
 abbrev pub Demand3Books : Type 0
 Demand3Books =
-    (circles : Circles) (ed : Edition) (s : List ℕ) (at : ℕ) → length s ≤ most_bytes → (tables_by circles ed s).answer ≡ Read at
+    (circles : Circles) (ed : Edition) (s : List ℕ) (at : ℕ) → length s ≤ most_bytes → (tables_by circles ed s).answer ≡ Ok at
     → (i : ℕ) → i < (tables_by circles ed s).tables.sagas → SagasOfBook circles ed s at i

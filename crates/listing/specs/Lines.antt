@@ -1,7 +1,7 @@
 -- The listing (docs/RULES.md, 7 The listing): "Line 1: events accepted; or `book refused`, number, events, place. `t`: number, state. `op`: number,
 -- object, mark, responsible, state, and in edition 2 the pupil record. `saga`: index, outstanding, closing step and its transaction, or `none`. The kinds of line come in this order,
 -- each by rising number. If the tables are refused only line 1 is printed." Refused tables are empty, so that no other line is left then.
-use Rattle.std.specs.Prelude.{ℕ, zero, suc, ◌+◌, ◌-◌, cond, List, [], ◌∷◌, ◌++◌, ltb, leb, eqb, get_or}
+use Rattle.std.specs.Prelude.{ℕ, zero, suc, ◌+◌, ◌-◌, cond, List, [], ◌∷◌, ◌++◌, ltb, leb, eqb, get_or, take, Option, Result, Err, ok_or}
 use Rattle.terms.specs.Refusals.{number_of}
 use Rattle.terms.specs.declared.Verdict.{Verdict}
 use Rattle.terms.specs.declared.Verdict.TheVariants.{Accepted, Refused}
@@ -20,14 +20,13 @@ use Rattle.rules.specs.declared.Phase.TheVariants.{Idle, Active, Committed, Abor
 use Rattle.closing.specs.Closing.{outstanding, closing}
 use Rattle.closing.specs.declared.NextStep.{NextStep}
 use Rattle.closing.specs.declared.NextStep.TheVariants.{NoStep, ToBegin, ToCommit, ToAbort}
+use Rattle.tables.specs.Reading.{edition_of}
 use Rattle.tables.specs.declared.Circles.{Circles}
 use Rattle.onward.specs.Onward.{judgement_by, refused_by}
 use Rattle.onward.specs.declared.Judgement.{Judgement}
 use Rattle.onward.specs.declared.No.{No}
-use Rattle.listing.specs.declared.Placed.{Placed}
-use Rattle.listing.specs.declared.Placed.TheVariants.{Wrote, NoRoom, NoLine}
-use Rattle.listing.specs.declared.Put.{Put}
-use Rattle.listing.specs.declared.Put.TheVariants.{Wrote as PutWrote, NoRoom as PutNoRoom}
+use Rattle.listing.specs.declared.NotPlaced.{NotPlaced}
+use Rattle.listing.specs.declared.NotPlaced.TheVariants.{NoRoom, NoLine}
 use Rattle.listing.specs.Texts.{put_answer, put_room}
 use Rattle.listing.specs.Words.{book_accepted, book_refused, transaction_word, operation_word, saga_word, no_word, idle_word, active_word, committed_word, aborted_word, read_word, write_word, none_word, begin_word, commit_word, abort_word, blank, line_feed, decimal}
 
@@ -115,6 +114,10 @@ lines_from r k (suc n) = line_of r k ++ lines_from r (k + 1) n
 unfoldable pub listing_of : Judgement → List No → List ℕ
 listing_of r refused = line_of r 0 ++ (no_lines refused ++ lines_from r 1 (line_count r - 1))
 
+-- which refused events of a book are listed: as many as the judgement counts
+abbrev pub listed : Judgement → Circles → List ℕ → List No
+listed r circles s = take r.refused (refused_by circles (edition_of s) s)
+
 -- of a book, read on past its refused events
 abbrev pub listing_by : Circles → Edition → List ℕ → List ℕ
 listing_by circles ed s = listing_of (judgement_by circles ed s) (refused_by circles ed s)
@@ -125,12 +128,11 @@ most_listing = 427927
 
 -- ---- into a lent room: the line at its front and the rest as it was; or nothing is touched
 
-abbrev pub placed : Put → Placed
-placed (PutWrote n) = Wrote n
-placed PutNoRoom = NoRoom
+abbrev pub placed : Option ℕ → Result ℕ NotPlaced
+placed put = ok_or put NoRoom
 
-unfoldable pub place_answer : Judgement → ℕ → List ℕ → Placed
-place_answer r k room = cond (leb (line_count r) k) NoLine (placed (put_answer (line_of r k) room))
+unfoldable pub place_answer : Judgement → ℕ → List ℕ → Result ℕ NotPlaced
+place_answer r k room = cond (leb (line_count r) k) (Err NoLine) (placed (put_answer (line_of r k) room))
 
 unfoldable pub place_room : Judgement → ℕ → List ℕ → List ℕ
 place_room r k room = cond (leb (line_count r) k) room (put_room (line_of r k) room)

@@ -1,7 +1,5 @@
 -- A text of at most so many bytes, and what is added to it. What does not fit is left off; no line of the listing comes to that.
-use Rattle.std.specs.Prelude.{ℕ, cond, List, [], ◌∷◌, ◌++◌, ltb, length, take, drop}
-use Rattle.listing.specs.declared.Put.{Put}
-use Rattle.listing.specs.declared.Put.TheVariants.{Wrote, NoRoom}
+use Rattle.std.specs.Prelude.{ℕ, cond, List, [], ◌∷◌, ◌++◌, ltb, length, take, drop, Option, Some, None}
 use Rattle.listing.specs.declared.Text.{Text}
 
 -- enough for every line
@@ -23,8 +21,9 @@ with_all l (b ∷ bs) = with_all (with_byte l b) bs
 
 -- ---- into a lent room: the bytes at its front and the rest as it was; or nothing is touched
 
-unfoldable pub put_answer : List ℕ → List ℕ → Put
-put_answer l room = cond (ltb (length room) (length l)) NoRoom (Wrote (length l))
+-- how many bytes were put; none where the room is too small
+unfoldable pub put_answer : List ℕ → List ℕ → Option ℕ
+put_answer l room = cond (ltb (length room) (length l)) None (Some (length l))
 
 unfoldable pub put_room : List ℕ → List ℕ → List ℕ
 put_room l room = cond (ltb (length room) (length l)) room (l ++ drop (length l) room)

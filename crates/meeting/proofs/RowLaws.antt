@@ -1,11 +1,11 @@
 -- Rows put together part by part, and that all of a row is told.
-use Prim.Native.Nat.{ℕ, ◌+◌, ◌≤◌}
+use Prim.Native.Nat.{ℕ, ◌≤◌}
 use native.Mathlib.Omega.{arith}
-use mathlib.Core.Path.{◌≡◌, refl, sym, ap, ◌∙◌}
+use mathlib.Core.Path.{◌≡◌, sym, ap, ◌∙◌}
 use mathlib.Core.List.{List, [], ◌++◌}
 use lib.ListN.{length, length-append}
 use Rattle.share.specs.declared.Share.{Share}
-use Rattle.listing.specs.Texts.{most_text, with_all}
+use Rattle.listing.specs.Texts.{with_all}
 use Rattle.listing.specs.Words.{decimal, line_feed}
 use Rattle.listing.proofs.TextPromisesHold.{text-promises}
 use Rattle.meeting.specs.Rows.{count_row, of_word, share_head, share_row}

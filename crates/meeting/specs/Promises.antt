@@ -1,5 +1,5 @@
 -- What is promised of the table: no row is cut off, and a worked table letter by letter.
-use Rattle.std.specs.Prelude.{ℕ, ◌≡◌, List, [], ◌∷◌, map}
+use Rattle.std.specs.Prelude.{◌≡◌, [], ◌∷◌, map}
 use Rattle.listing.specs.Texts.{with_all}
 use Rattle.totals.specs.declared.Totals.{Totals}
 use Rattle.meeting.specs.Rows.{row_of}

@@ -4,8 +4,8 @@
 // words; of a book that was written it is said only when all of it was taken.
 #![tactic(auto)]
 
-use input::Filled;
 use mend::Mending;
+use std::env::Env;
 use std::process::ExitCode;
 use terms::{Book, Refusal};
 
@@ -94,16 +94,13 @@ fn mend_input(rt: &(impl Input + Print + Eprint)) -> ExitCode {
     let mut bytes = [0u8; 65537];
     let mut room = [0u8; Book::BYTES];
     match input::fill(&mut rt.reader(), &mut bytes) {
-        Filled::Whole(n) => mend_in(rt, &bytes[..n], &mut room),
-        Filled::Failed(reason) => {
-            input::fail(rt, "mendbook: the book was not read", reason);
-            ExitCode::SUCCESS
-        }
+        Ok(n) => mend_in(rt, &bytes[..n], &mut room),
+        Err(reason) => input::fail(rt, "mendbook: the book was not read", reason),
     }
 }
 
 fn main(rt: HostRuntime) -> ExitCode {
-    if input::has_word(&rt, 1) {
+    if input::is_word(rt.arg(1, &mut [])) {
         let _ = eprintln!(rt; "usage: mendbook < TORN > WHOLE");
         return ExitCode::SUCCESS;
     }

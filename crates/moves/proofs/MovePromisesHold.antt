@@ -5,6 +5,7 @@ use mathlib.Core.Path.{◌≡◌, refl, sym, ap, ◌∙◌, subst, subst⁻¹}
 use mathlib.Core.Bool.{Bool, true, false, cond, ◌&&◌, ◌||◌}
 use mathlib.Core.Logic.{◌≢◌}
 use mathlib.Core.Option.{none, some}
+use Rattle.std.proofs.Common.{Ok}
 use mathlib.Core.List.{List, []}
 use lib.Dec.{eqb, leb}
 use lib.ListN.{length}
@@ -18,7 +19,6 @@ use Rattle.tables.specs.Reading.{tables_by, edition_of}
 use Rattle.tables.specs.Sorts.{first_of, steps_of}
 use Rattle.tables.specs.declared.Circles.TheVariants.{Forbidden}
 use Rattle.tables.specs.declared.Tables.{Tables}
-use Rattle.tables.specs.declared.TablesAnswer.TheVariants.{Read}
 use Rattle.rules.specs.States.{is_aborted, is_committed}
 use Rattle.rules.specs.declared.Phase.{Phase}
 use Rattle.rules.specs.declared.Phase.TheVariants.{Aborted, Active, Committed, Idle}
@@ -41,6 +41,7 @@ use Rattle.moves.specs.declared.ListWord.{ListWord}
 use Rattle.moves.specs.declared.ListWord.TheVariants.{Moved, PutBack, StillOpen}
 use Rattle.moves.specs.declared.Part.TheVariants.{Itself, OfStep, OfUndo}
 use Rattle.moves.specs.declared.Todo.TheVariants.{Nothing}
+use Rattle.std.specs.Prelude.{Ok}
 
 -- ---- the words
 
@@ -244,7 +245,7 @@ module _ (tables : Tables) (es : List Event) (i : ℕ) (demand : Demand tables i
 
 -- ---- of books
 
-next-read : (s : List ℕ) (at : ℕ) → length s ≤ most_bytes → (tables_by Forbidden (edition_of s) s).answer ≡ Read at
+next-read : (s : List ℕ) (at : ℕ) → length s ≤ most_bytes → (tables_by Forbidden (edition_of s) s).answer ≡ Ok at
     → (i : ℕ) → is_listed (judgement_of s).tables i ≡ true → NextThing (judgement_of s).tables (judgement_of s).state i
 unfolding judgement_on
 next-read s at small read i listed =

@@ -11,7 +11,7 @@ use Rattle.left.specs.Left.{left_in}
 use Rattle.plan.specs.Names.{list_name, move_name, name_at, step_name}
 use Rattle.plan.specs.Verdict.{plan_number, plan_verdict, refusal_number}
 use Rattle.plan.specs.declared.PlanRefusal.{PlanRefusal}
-use Rattle.plan.specs.declared.PlanVerdict.TheVariants.{Fits}
+use Rattle.std.proofs.Common.{Ok}
 use Rattle.plan.proofs.JudgingHolds.{judging-holds}
 use Rattle.onward.specs.declared.Judgement.{Judgement}
 use Rattle.listing.specs.Words.{decimal}
@@ -75,7 +75,7 @@ below names ends steps lists r k =
 
 -- ---- of a plan that fits no name is long
 
-module _ (names ends steps lists : List ℕ) (fits : plan_verdict names ends steps lists ≡ Fits) where
+module _ (names ends steps lists : List ℕ) (fits : plan_verdict names ends steps lists ≡ Ok tt) where
   short : (k : ℕ) → length (name_at names ends k) ≤ 24
   short k =
       let none = ((judging-holds names ends steps lists).fits_0.0 (ap plan_number fits)).2 in

@@ -5,47 +5,29 @@ use mathlib.Core.Path.{◌≡◌, sym, ap, ◌∙◌}
 use mathlib.Core.Bool.{Bool, true, false}
 use mathlib.Core.List.{List, [], ◌++◌}
 use lib.ListN.{get_or, length}
-use borrow.Author.Tests.{eq-eqb, le-leb, le-ltb, lt-leb, lt-ltb, ne_eqb}
-use Rattle.terms.specs.declared.Saga.{Saga}
+use borrow.Author.Tests.{eq-eqb, le-ltb, lt-leb, lt-ltb, ne_eqb}
 use Rattle.terms.specs.declared.Verdict.{Verdict}
 use Rattle.terms.specs.declared.Verdict.TheVariants.{Accepted, Refused}
 use Rattle.terms.specs.declared.Refusal.{Refusal}
-use Rattle.tables.specs.Counts.{saga_count}
-use Rattle.tables.specs.Sorts.{first_of, saga_of, steps_of}
 use Rattle.tables.specs.declared.Tables.{Tables}
-use Rattle.rules.specs.States.{is_committed, own}
-use Rattle.rules.specs.declared.Phase.{Phase}
 use Rattle.rules.specs.declared.State.{State}
 use Rattle.closing.specs.Closing.{closing, settled}
 use Rattle.closing.specs.declared.NextStep.{NextStep}
 use Rattle.left.specs.Left.{left_in}
-use Rattle.plan.specs.Names.{name_at, step_name}
-use Rattle.plan.specs.Verdict.{plan_verdict}
+use Rattle.plan.specs.Verdict.{PlanVerdict, plan_verdict}
 use Rattle.plan.specs.declared.PlanRefusal.{PlanRefusal}
-use Rattle.plan.specs.declared.PlanVerdict.{PlanVerdict}
-use Rattle.plan.specs.declared.PlanVerdict.TheVariants.{Fits, Refused as Unfit}
+use Rattle.std.proofs.Common.{Ok, Err}
 use Rattle.onward.specs.declared.Judgement.{Judgement}
 use Rattle.listing.specs.Lines.{line_of}
 use Rattle.listing.specs.Texts.{with_all}
 use Rattle.listing.specs.Words.{decimal}
 use Rattle.listing.proofs.TextPromisesHold.{text-promises}
 use Rattle.moves.specs.Lines.{accepted_line, by_book, by_plan, count_by_book, count_by_plan, left_line, list_line, move_line, plan_line, said_line, said_lines, shown, step_letters, told_line}
-use Rattle.moves.specs.Moves.{part_by, part_of, saga_committed, todo_by, todo_for, word_for}
+use Rattle.moves.specs.Moves.{part_of, saga_committed, todo_by, todo_for, word_for}
 use Rattle.moves.specs.Words.{step_number}
 use Rattle.moves.specs.declared.ListWord.TheVariants.{Moved, PutBack, StillOpen}
-use Rattle.moves.specs.declared.Part.{Part}
-use Rattle.moves.specs.declared.Part.TheVariants.{Itself, OfStep, OfUndo}
 
 -- ---- a class list
-
-module _ (tables : Tables) (s : State) (i n : ℕ) (e : n ≡ saga_count tables) where
-  pub not_listed : n ≤ i → false ≡ saga_committed tables s i
-  not_listed h = rw (le-ltb i (saga_count tables) (omega arith))
-
-  pub listed-is : i < n → (saga : Saga) → saga ≡ saga_of tables i → (p : Phase) → p ≡ own s.transactions saga.first 0
-      → (b : Bool) → b ≡ is_committed p → b ≡ saga_committed tables s i
-  listed-is h saga d p q b r =
-      rw (lt-ltb i (saga_count tables) (omega arith)) (r ∙ ap is_committed (q ∙ ap (λ (x : Saga). own s.transactions x.first 0) d))
 
 module _ (tables : Tables) (s : State) (i : ℕ) (b : Bool) (e : b ≡ saga_committed tables s i) where
   pub word_moved : b ≡ true → Moved ≡ word_for tables s i
@@ -62,25 +44,6 @@ module _ (tables : Tables) (s : State) (i : ℕ) (b : Bool) (e : b ≡ saga_comm
     word-open t = rw (sym e ∙ off, sym d ∙ t)
 
 -- ---- a move
-
-module _ (n k : ℕ) where
-  pub part-itself : k ≡ 0 → Itself ≡ part_by n k
-  part-itself e = rw (eq-eqb k 0 e)
-
-  pub part_step : (k ≡ 0 → ⊥) → k ≤ n → OfStep k ≡ part_by n k
-  part_step e h = rw (ne_eqb k 0 e, le-leb k n h)
-
-  pub part-undo : (k ≡ 0 → ⊥) → n < k → OfUndo (k - n) ≡ part_by n k
-  part-undo e h = rw (ne_eqb k 0 e, lt-leb k n h)
-
-module _ (tables : Tables) (i t : ℕ) (saga : Saga) (d : saga ≡ saga_of tables i) where
-  pub part-before : t < saga.first → Itself ≡ part_of tables i t
-  part-before h =
-      let none : 0 ≡ t - first_of tables i = omega (arith, ap (λ (x : Saga). x.first) d) in
-      ap (part_by (steps_of tables i)) none
-
-  pub part-there : (r : Part) → r ≡ part_by saga.steps (t - saga.first) → r ≡ part_of tables i t
-  part-there r q = q ∙ ap (λ (x : Saga). part_by x.steps (t - x.first)) d
 
 pub todo-is : (tables : Tables) (s : State) (i : ℕ) (x : NextStep) → x ≡ closing tables s i → todo_by (part_of tables i) x ≡ todo_for tables s i
 unfolding todo_for
@@ -100,9 +63,6 @@ module _ (names ends steps : List ℕ) (i k n : ℕ) (e : n ≡ get_or steps i 0
   pub step-numbered : n < k → step_number ++ decimal k ≡ step_letters names ends steps i k
   step-numbered h = rw (lt-leb k (get_or steps i 0) (omega arith))
 
-  pub step-named : k ≤ n → name_at names ends (step_name steps i k) ≡ step_letters names ends steps i k
-  step-named h = rw (le-leb k (get_or steps i 0) (omega arith))
-
 -- ---- which line it is
 
 module _ (names ends steps lists : List ℕ) (r : Judgement) (k : ℕ) where
@@ -119,11 +79,11 @@ module _ (names ends steps lists : List ℕ) (r : Judgement) (k : ℕ) where
   pub accepted-told : (k ≡ 0 → ⊥) → told_line names ends steps lists r (k - 1) ≡ accepted_line names ends steps lists r k
   accepted-told z = rw (ne_eqb k 0 z)
 
-  pub said-unfit : (x : PlanRefusal) → Unfit x ≡ plan_verdict names ends steps lists → shown (plan_line x) ≡ said_line names ends steps lists r k
+  pub said-unfit : (x : PlanRefusal) → Err x ≡ plan_verdict names ends steps lists → shown (plan_line x) ≡ said_line names ends steps lists r k
   unfolding said_line
   said-unfit x e = ap (λ (v : PlanVerdict). by_plan names ends steps lists r v k) e
 
-  module _ (fits : Fits ≡ plan_verdict names ends steps lists) where
+  module _ (fits : Ok tt ≡ plan_verdict names ends steps lists) where
     pub said-refused : (x : Refusal) → Refused x ≡ r.answer → line_of r 0 ≡ said_line names ends steps lists r k
     unfolding said_line
     said-refused x e =
@@ -134,11 +94,11 @@ module _ (names ends steps lists : List ℕ) (r : Judgement) (k : ℕ) where
     said-told e = ap (λ (v : Verdict). by_book names ends steps lists r v k) e ∙ ap (λ (v : PlanVerdict). by_plan names ends steps lists r v k) fits
 
 module _ (names ends steps lists : List ℕ) (r : Judgement) where
-  pub count-unfit : (x : PlanRefusal) → Unfit x ≡ plan_verdict names ends steps lists → 1 ≡ said_lines names ends steps lists r
+  pub count-unfit : (x : PlanRefusal) → Err x ≡ plan_verdict names ends steps lists → 1 ≡ said_lines names ends steps lists r
   unfolding said_lines
   count-unfit x e = ap (λ (v : PlanVerdict). count_by_plan names ends steps lists r v) e
 
-  module _ (fits : Fits ≡ plan_verdict names ends steps lists) where
+  module _ (fits : Ok tt ≡ plan_verdict names ends steps lists) where
     pub count-refused : (x : Refusal) → Refused x ≡ r.answer → 1 ≡ said_lines names ends steps lists r
     unfolding said_lines
     count-refused x e = ap (λ (v : Verdict). count_by_book names ends steps lists r v) e ∙ ap (λ (v : PlanVerdict). count_by_plan names ends steps lists r v) fits

@@ -1,14 +1,12 @@
 -- What staff read, byte for byte: a line that says how much is left, one for each class list, then one for each move; or one line that says why nothing is said of
 -- any list.
-use Rattle.std.specs.Prelude.{ℕ, ◌+◌, ◌-◌, cond, List, [], ◌++◌, eqb, leb, ltb, get_or, length}
+use Rattle.std.specs.Prelude.{ℕ, ◌+◌, ◌-◌, cond, Ok, Err, List, [], ◌++◌, eqb, leb, ltb, get_or, length}
 use Rattle.terms.specs.declared.Verdict.{Verdict}
 use Rattle.terms.specs.declared.Verdict.TheVariants.{Accepted, Refused}
 use Rattle.left.specs.Left.{left_in}
 use Rattle.plan.specs.Names.{list_name, move_name, name_at, step_name}
-use Rattle.plan.specs.Verdict.{plan_verdict, refusal_number}
+use Rattle.plan.specs.Verdict.{PlanVerdict, plan_verdict, refusal_number}
 use Rattle.plan.specs.declared.PlanRefusal.{PlanRefusal}
-use Rattle.plan.specs.declared.PlanVerdict.{PlanVerdict}
-use Rattle.plan.specs.declared.PlanVerdict.TheVariants.{Fits, Refused as Unfit}
 use Rattle.onward.specs.declared.Judgement.{Judgement}
 use Rattle.listing.specs.Lines.{line_of}
 use Rattle.listing.specs.Texts.{with_all}
@@ -84,8 +82,8 @@ module _ (names ends steps lists : List ℕ) (r : Judgement) where
   by_book (Refused x) k = line_of r 0
 
   abbrev pub by_plan : PlanVerdict → ℕ → List ℕ
-  by_plan Fits k = by_book r.answer k
-  by_plan (Unfit x) k = shown (plan_line x)
+  by_plan (Ok fits) k = by_book r.answer k
+  by_plan (Err x) k = shown (plan_line x)
 
   unfoldable pub said_line : ℕ → List ℕ
   said_line k = by_plan (plan_verdict names ends steps lists) k
@@ -95,8 +93,8 @@ module _ (names ends steps lists : List ℕ) (r : Judgement) where
   count_by_book (Refused x) = 1
 
   abbrev pub count_by_plan : PlanVerdict → ℕ
-  count_by_plan Fits = count_by_book r.answer
-  count_by_plan (Unfit x) = 1
+  count_by_plan (Ok fits) = count_by_book r.answer
+  count_by_plan (Err x) = 1
 
   unfoldable pub said_lines : ℕ
   said_lines = count_by_plan (plan_verdict names ends steps lists)

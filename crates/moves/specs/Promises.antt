@@ -1,5 +1,5 @@
 -- What is promised of the record move.
-use Rattle.std.specs.Prelude.{ℕ, ◌+◌, ◌≤◌, ◌<◌, ◌≡◌, true, ◌↔◌, ◌≢◌, List, get_or, length}
+use Rattle.std.specs.Prelude.{ℕ, ◌+◌, ◌≤◌, ◌<◌, ◌≡◌, true, ◌↔◌, ◌≢◌, Ok, Err, List, get_or, length}
 use Rattle.std.proofs.Math.Option.{some}
 use Rattle.terms.specs.Limits.{most_bytes}
 use Rattle.terms.specs.declared.Event.{Event}
@@ -8,7 +8,6 @@ use Rattle.terms.specs.declared.Verdict.TheVariants.{Accepted, Refused}
 use Rattle.tables.specs.Reading.{tables_by, edition_of}
 use Rattle.tables.specs.declared.Circles.TheVariants.{Forbidden}
 use Rattle.tables.specs.declared.Tables.{Tables}
-use Rattle.tables.specs.declared.TablesAnswer.TheVariants.{Read}
 use Rattle.rules.specs.declared.Phase.TheVariants.{Committed, Idle}
 use Rattle.rules.specs.declared.State.{State}
 use Rattle.judge.specs.Judge.{judged}
@@ -16,7 +15,6 @@ use Rattle.closing.specs.Closing.{closing, event_of, is_listed, outstanding, own
 use Rattle.left.specs.Left.{left_in}
 use Rattle.plan.specs.Verdict.{plan_verdict}
 use Rattle.plan.specs.declared.PlanRefusal.{PlanRefusal}
-use Rattle.plan.specs.declared.PlanVerdict.TheVariants.{Fits, Refused as Unfit}
 use Rattle.onward.specs.Onward.{judgement_of}
 use Rattle.onward.specs.declared.Judgement.{Judgement}
 use Rattle.listing.specs.Lines.{line_of}
@@ -56,23 +54,23 @@ pub record NextThing (tables : Tables) (s : State) (i : ℕ) : Type 0 where
 -- what is said of a plan and the judgement of a book
 pub record Said (names ends steps lists : List ℕ) (r : Judgement) : Type 0 where
   -- where the plan is refused that is all that is said, and else where the book is refused
-  pub plan_first : (x : PlanRefusal) → plan_verdict names ends steps lists ≡ Unfit x
+  pub plan_first : (x : PlanRefusal) → plan_verdict names ends steps lists ≡ Err x
       → (said_lines names ends steps lists r ≡ 1) × ((k : ℕ) → said_line names ends steps lists r k ≡ plan_line x)
-  pub book_next : plan_verdict names ends steps lists ≡ Fits → (x : Refusal) → r.answer ≡ Refused x
+  pub book_next : plan_verdict names ends steps lists ≡ Ok tt → (x : Refusal) → r.answer ≡ Refused x
       → (said_lines names ends steps lists r ≡ 1) × ((k : ℕ) → said_line names ends steps lists r k ≡ line_of r 0)
   -- else a line that says how much is left, one for each list, and behind them one for each move, and nothing is cut off
-  pub all_told : plan_verdict names ends steps lists ≡ Fits → r.answer ≡ Accepted → said_lines names ends steps lists r ≡ 1 + (length lists + length steps)
-  pub left_told : plan_verdict names ends steps lists ≡ Fits → r.answer ≡ Accepted → said_line names ends steps lists r 0 ≡ left_line (left_in r.tables r.state)
-  pub lists_told : plan_verdict names ends steps lists ≡ Fits → r.answer ≡ Accepted → (j : ℕ) → j < length lists
+  pub all_told : plan_verdict names ends steps lists ≡ Ok tt → r.answer ≡ Accepted → said_lines names ends steps lists r ≡ 1 + (length lists + length steps)
+  pub left_told : plan_verdict names ends steps lists ≡ Ok tt → r.answer ≡ Accepted → said_line names ends steps lists r 0 ≡ left_line (left_in r.tables r.state)
+  pub lists_told : plan_verdict names ends steps lists ≡ Ok tt → r.answer ≡ Accepted → (j : ℕ) → j < length lists
       → said_line names ends steps lists r (1 + j) ≡ list_line names ends steps j (word_for r.tables r.state (get_or lists j 0))
-  pub moves_told : plan_verdict names ends steps lists ≡ Fits → r.answer ≡ Accepted → (i : ℕ)
+  pub moves_told : plan_verdict names ends steps lists ≡ Ok tt → r.answer ≡ Accepted → (i : ℕ)
       → said_line names ends steps lists r (1 + (length lists + i)) ≡ move_line names ends steps i (todo_for r.tables r.state i)
 
 pub record MovePromises : Type 0 where
   -- of any state
   pub words : (tables : Tables) (s : State) (i : ℕ) → Words tables s i
   -- of every book whose tables are accepted, and every saga in it
-  pub next : (s : List ℕ) (at : ℕ) → length s ≤ most_bytes → (tables_by Forbidden (edition_of s) s).answer ≡ Read at
+  pub next : (s : List ℕ) (at : ℕ) → length s ≤ most_bytes → (tables_by Forbidden (edition_of s) s).answer ≡ Ok at
       → (i : ℕ) → is_listed (judgement_of s).tables i ≡ true → NextThing (judgement_of s).tables (judgement_of s).state i
   -- of any plan and any judgement
   pub said : (names ends steps lists : List ℕ) (r : Judgement) → Said names ends steps lists r

@@ -12,7 +12,7 @@ ghost use Rattle.moves.specs.Lines.{word_letters, step_letters, part_letters, to
 use closing::NextStep;
 use listing::Text;
 use onward::Judgement;
-use plan::{PlanRefusal, PlanVerdict};
+use plan::{Plan, PlanRefusal};
 use rules::State;
 use tables::Tables;
 use terms::Verdict;
@@ -50,9 +50,7 @@ fn saga_committed(tables: Tables, state: State, i: usize) -> bool
         return false;
     }
     let saga = tables::saga_at(tables, i);
-    let transactions = state.transactions;
-    let phase = rules::own(transactions, saga.first, 0);
-    phase.is_committed()
+    rules::own(&state.transactions, saga.first, 0).is_committed()
 }
 
 // What is said of the lists of move i.
@@ -121,65 +119,65 @@ fn with_word(text: Text, word: ListWord) -> Text
 fn planned(steps: &[u16], i: usize) -> usize
     ensures { result ≡ get_or steps.now i 0 }
 {
-    if steps.len() <= i {
-        return 0;
+    match steps.get(i) {
+        Some(n) => *n as usize,
+        None => 0,
     }
-    steps[i] as usize
 }
 
 // With step k of move i, by its name; one that the plan does not name, by its number.
-fn with_step(text: Text, names: &[u8], ends: &[u32], steps: &[u16], i: usize, k: usize) -> Text
-    ensures { text_of result ≡ with_all (text_of text) (step_letters names.now ends.now steps.now i k) }
+fn with_step(text: Text, plan: Plan, i: usize, k: usize) -> Text
+    ensures { text_of result ≡ with_all (text_of text) (step_letters plan.entry.names.now plan.entry.ends.now plan.entry.steps.now i k) }
 {
-    if planned(steps, i) < k {
+    if planned(plan.steps, i) < k {
         return text.word(b"step ").number(k);
     }
-    let at = plan::step_name(steps, i, k);
-    let name = plan::name(names, ends, at);
+    let at = plan::step_name(plan.steps, i, k);
+    let name = plan::name(plan.names, plan.ends, at);
     text.word(name)
 }
 
 // With what of move i is meant.
-fn with_part(text: Text, names: &[u8], ends: &[u32], steps: &[u16], i: usize, part: Part) -> Text
-    ensures { text_of result ≡ with_all (text_of text) (part_letters names.now ends.now steps.now i part) }
+fn with_part(text: Text, plan: Plan, i: usize, part: Part) -> Text
+    ensures { text_of result ≡ with_all (text_of text) (part_letters plan.entry.names.now plan.entry.ends.now plan.entry.steps.now i part) }
 {
     match part {
         Part::Itself => text.word(b"the move"),
-        Part::OfStep(k) => with_step(text.word(b"the step "), names, ends, steps, i, k),
-        Part::OfUndo(k) => with_step(text.word(b"the undo of "), names, ends, steps, i, k),
+        Part::OfStep(k) => with_step(text.word(b"the step "), plan, i, k),
+        Part::OfUndo(k) => with_step(text.word(b"the undo of "), plan, i, k),
     }
 }
 
 // With the thing to do for move i.
-fn with_todo(text: Text, names: &[u8], ends: &[u32], steps: &[u16], i: usize, todo: Todo) -> Text
-    ensures { text_of result ≡ with_all (text_of text) (todo_letters names.now ends.now steps.now i todo) }
+fn with_todo(text: Text, plan: Plan, i: usize, todo: Todo) -> Text
+    ensures { text_of result ≡ with_all (text_of text) (todo_letters plan.entry.names.now plan.entry.ends.now plan.entry.steps.now i todo) }
 {
     match todo {
         Todo::Nothing => text.word(b"nothing"),
-        Todo::Begins(part) => with_part(text.word(b"begin "), names, ends, steps, i, part),
-        Todo::Commits(part) => with_part(text.word(b"commit "), names, ends, steps, i, part),
-        Todo::Aborts(part) => with_part(text.word(b"abort "), names, ends, steps, i, part),
+        Todo::Begins(part) => with_part(text.word(b"begin "), plan, i, part),
+        Todo::Commits(part) => with_part(text.word(b"commit "), plan, i, part),
+        Todo::Aborts(part) => with_part(text.word(b"abort "), plan, i, part),
     }
 }
 
 // The line of class list j.
-fn list_line(names: &[u8], ends: &[u32], steps: &[u16], j: usize, word: ListWord) -> Text
-    ensures { text_of result ≡ shown (list_line names.now ends.now steps.now j word) }
+fn list_line(plan: Plan, j: usize, word: ListWord) -> Text
+    ensures { text_of result ≡ shown (list_line plan.entry.names.now plan.entry.ends.now plan.entry.steps.now j word) }
 {
-    let at = plan::list_name(steps, j);
-    let name = plan::name(names, ends, at);
+    let at = plan::list_name(plan.steps, j);
+    let name = plan::name(plan.names, plan.ends, at);
     let text = Text::empty().word(b"list ").word(name);
     with_word(text, word).end()
 }
 
 // The line of move i.
-fn move_line(names: &[u8], ends: &[u32], steps: &[u16], i: usize, todo: Todo) -> Text
-    ensures { text_of result ≡ shown (move_line names.now ends.now steps.now i todo) }
+fn move_line(plan: Plan, i: usize, todo: Todo) -> Text
+    ensures { text_of result ≡ shown (move_line plan.entry.names.now plan.entry.ends.now plan.entry.steps.now i todo) }
 {
-    let at = plan::move_name(steps, i);
-    let name = plan::name(names, ends, at);
+    let at = plan::move_name(plan.steps, i);
+    let name = plan::name(plan.names, plan.ends, at);
     let text = Text::empty().word(b"move ").word(name).word(b": ");
-    with_todo(text, names, ends, steps, i, todo).end()
+    with_todo(text, plan, i, todo).end()
 }
 
 // The line of a plan that is refused.
@@ -202,37 +200,23 @@ fn left_line(left: usize) -> Text
 }
 
 // Line k of the lists and then the moves, where plan and book are accepted.
-fn told_line(
-    names: &[u8],
-    ends: &[u32],
-    steps: &[u16],
-    lists: &[u16],
-    judgement: Judgement,
-    k: usize,
-) -> Text
-    ensures { text_of result ≡ told_line names.now ends.now steps.now lists.now judgement k }
+fn told_line(plan: Plan, judgement: Judgement, k: usize) -> Text
+    ensures { text_of result ≡ told_line plan.entry.names.now plan.entry.ends.now plan.entry.steps.now plan.entry.lists.now judgement k }
 {
     let tables = judgement.tables;
     let state = judgement.state;
-    if k < lists.len() {
-        let word = list_word(tables, state, lists[k] as usize);
-        return list_line(names, ends, steps, k, word);
+    if k < plan.lists.len() {
+        let word = list_word(tables, state, plan.lists[k] as usize);
+        return list_line(plan, k, word);
     }
-    let i = k - lists.len();
+    let i = k - plan.lists.len();
     let todo = to_do(tables, state, i);
-    move_line(names, ends, steps, i, todo)
+    move_line(plan, i, todo)
 }
 
 // Line k of a plan that fits and a book that is accepted: how much is left, then the lists and the moves.
-fn accepted_line(
-    names: &[u8],
-    ends: &[u32],
-    steps: &[u16],
-    lists: &[u16],
-    judgement: Judgement,
-    k: usize,
-) -> Text
-    ensures { text_of result ≡ accepted_line names.now ends.now steps.now lists.now judgement k }
+fn accepted_line(plan: Plan, judgement: Judgement, k: usize) -> Text
+    ensures { text_of result ≡ accepted_line plan.entry.names.now plan.entry.ends.now plan.entry.steps.now plan.entry.lists.now judgement k }
 {
     if k == 0 {
         let tables = judgement.tables;
@@ -241,8 +225,10 @@ fn accepted_line(
         return left_line(left);
     }
     let behind = k - 1;
-    told_line(names, ends, steps, lists, judgement, behind)
+    told_line(plan, judgement, behind)
 }
+
+// `line_count` and `line` are promised over the plan's four lists by themselves, and keep them as parameters.
 
 // How many lines there are to read.
 pub fn line_count(
@@ -254,7 +240,7 @@ pub fn line_count(
 ) -> usize
     ensures { result ≡ said_lines names.now ends.now steps.now lists.now judgement }
 {
-    let PlanVerdict::Fits = plan::judged(names, ends, steps, lists) else {
+    let Ok(()) = plan::judged(names, ends, steps, lists) else {
         return 1;
     };
     let answer = judgement.answer;
@@ -276,12 +262,18 @@ pub fn line(
 ) -> Text
     ensures { text_of result ≡ said_line names.now ends.now steps.now lists.now judgement k }
 {
-    if let PlanVerdict::Refused(refusal) = plan::judged(names, ends, steps, lists) {
+    if let Err(refusal) = plan::judged(names, ends, steps, lists) {
         return plan_line(refusal);
     }
     let answer = judgement.answer;
     let Verdict::Accepted = answer else {
         return listing::line(judgement, 0);
     };
-    accepted_line(names, ends, steps, lists, judgement, k)
+    let plan = Plan {
+        names,
+        ends,
+        steps,
+        lists,
+    };
+    accepted_line(plan, judgement, k)
 }

@@ -9,53 +9,53 @@ use lib.Dec.{ltb, leb}
 use borrow.Author.Tests.{lt-ltb, le-ltb, le-leb, ltb-true, ltb-false}
 use Rattle.laws.proofs.Bools.{bool_cases, and_on, is-not, clash}
 use Rattle.plan.specs.declared.Counts.{Counts}
-use Rattle.plan.specs.declared.PlanRead.{PlanRead}
-use Rattle.plan.specs.declared.PlanRead.TheVariants.{Read, NotUnderstood, NoRoom, TooLong}
+use Rattle.plan.specs.declared.PlanUnread.TheVariants.{NotUnderstood, NoRoom, TooLong}
+use Rattle.std.proofs.Common.{Ok, Err}
 use Rattle.plan.specs.Lines.{Entry, entries_of}
-use Rattle.plan.specs.Reading.{first_unclear, counts_of, most_bytes, told_by, told, has_room, if_room, read_answer}
+use Rattle.plan.specs.Reading.{PlanRead, first_unclear, counts_of, most_bytes, told_by, told, has_room, if_room, read_answer}
 use Rattle.plan.specs.Promises.{RoomFor, Answering}
 use Rattle.plan.proofs.ReadLaws.{rooms}
 
 -- ---- the answer by three questions: is the text too long, which line is not understood, is there room
 
 abbrev said : Bool → ℕ → Bool → Counts → PlanRead
-said true n r c = TooLong
-said false zero true c = Read c
-said false zero false c = NoRoom
-said false (suc n) r c = NotUnderstood (suc n)
+said true n r c = Err TooLong
+said false zero true c = Ok c
+said false zero false c = Err NoRoom
+said false (suc n) r c = Err (NotUnderstood (suc n))
 
 -- the answers apart
 abbrev tag : PlanRead → ℕ
-tag (Read c) = 0
-tag (NotUnderstood n) = 1
-tag NoRoom = 2
-tag TooLong = 3
+tag (Ok c) = 0
+tag (Err (NotUnderstood n)) = 1
+tag (Err NoRoom) = 2
+tag (Err TooLong) = 3
 
-long-on : (b : Bool) (n : ℕ) (r : Bool) (c : Counts) → said b n r c ≡ TooLong → b ≡ true
+long-on : (b : Bool) (n : ℕ) (r : Bool) (c : Counts) → said b n r c ≡ Err TooLong → b ≡ true
 long-on true n r c e = refl
 long-on false zero true c e = absurd (omega (arith, ap tag e))
 long-on false zero false c e = absurd (omega (arith, ap tag e))
 long-on false (suc n) r c e = absurd (omega (arith, ap tag e))
 
-line_on : (b : Bool) (n : ℕ) (r : Bool) (c : Counts) (k : ℕ) → said b n r c ≡ NotUnderstood k → (b ≡ false) × (1 ≤ k) × (n ≡ k)
+line_on : (b : Bool) (n : ℕ) (r : Bool) (c : Counts) (k : ℕ) → said b n r c ≡ Err (NotUnderstood k) → (b ≡ false) × (1 ≤ k) × (n ≡ k)
 line_on true n r c k e = absurd (omega (arith, ap tag e))
 line_on false zero true c k e = absurd (omega (arith, ap tag e))
 line_on false zero false c k e = absurd (omega (arith, ap tag e))
 line_on false (suc n) r c k e = let q : suc n ≡ k = cc in (refl, omega arith, q)
 
-room-on : (b : Bool) (n : ℕ) (r : Bool) (c : Counts) → said b n r c ≡ NoRoom → (b ≡ false) × (n ≡ 0) × (r ≡ false)
+room-on : (b : Bool) (n : ℕ) (r : Bool) (c : Counts) → said b n r c ≡ Err NoRoom → (b ≡ false) × (n ≡ 0) × (r ≡ false)
 room-on true n r c e = absurd (omega (arith, ap tag e))
 room-on false zero true c e = absurd (omega (arith, ap tag e))
 room-on false zero false c e = (refl, refl, refl)
 room-on false (suc n) r c e = absurd (omega (arith, ap tag e))
 
-read_on : (b : Bool) (n : ℕ) (r : Bool) (c d : Counts) → said b n r c ≡ Read d → (b ≡ false) × (n ≡ 0) × (r ≡ true)
+read_on : (b : Bool) (n : ℕ) (r : Bool) (c d : Counts) → said b n r c ≡ Ok d → (b ≡ false) × (n ≡ 0) × (r ≡ true)
 read_on true n r c d e = absurd (omega (arith, ap tag e))
 read_on false zero true c d e = (refl, refl, refl)
 read_on false zero false c d e = absurd (omega (arith, ap tag e))
 read_on false (suc n) r c d e = absurd (omega (arith, ap tag e))
 
-on_line : (k : ℕ) (r : Bool) (c : Counts) → 1 ≤ k → said false k r c ≡ NotUnderstood k
+on_line : (k : ℕ) (r : Bool) (c : Counts) → 1 ≤ k → said false k r c ≡ Err (NotUnderstood k)
 on_line zero r c h = absurd (omega arith)
 on_line (suc k) r c h = refl
 
@@ -93,7 +93,7 @@ module _ (text : List ℕ) (names ends steps lists : ℕ) where
   not-long : length text ≤ most_bytes → long ≡ false
   not-long h = le-ltb most_bytes (length text) h
 
-  pub read-tells : (c : Counts) → read_answer text names ends steps lists ≡ Read c → (length text ≤ most_bytes) × (first_unclear 1 0 es ≡ 0)
+  pub read-tells : (c : Counts) → read_answer text names ends steps lists ≡ Ok c → (length text ≤ most_bytes) × (first_unclear 1 0 es ≡ 0)
   read-tells c e = let r = read_on long (first_unclear 1 0 es) large (counts_of es) c (sym answer-is ∙ e) in (short r.0, r.1)
 
   pub answering-holds : Answering text names ends steps lists

@@ -6,7 +6,8 @@ use Prim.Native.Nat.{ℕ, zero, suc, ◌+◌, ◌≤◌}
 use native.Mathlib.Omega.{arith}
 use lib.ListN.{length, length-append}
 use Rattle.plan.specs.declared.Counts.{Counts}
-use Rattle.plan.specs.declared.PlanRead.TheVariants.{Read, NotUnderstood}
+use Rattle.plan.specs.declared.PlanUnread.TheVariants.{NotUnderstood}
+use Rattle.std.proofs.Common.{Ok, Err}
 use Rattle.plan.specs.declared.Word.{Word}
 use Rattle.plan.specs.declared.Word.TheVariants.{Passed, Move, Step, ClassList, Unclear}
 use Rattle.plan.specs.Lines.{Entry, passed, move, step, list, unclear, entry_by}
@@ -112,11 +113,11 @@ first-none n m = refl
 
 -- ---- what counting answers
 
-pub told-all : (es : List Entry) (c : Counts) → first_unclear 1 0 es ≡ 0 → c ≡ counts_of es → Read c ≡ told es
+pub told-all : (es : List Entry) (c : Counts) → first_unclear 1 0 es ≡ 0 → c ≡ counts_of es → Ok c ≡ told es
 unfolding told
-told-all es c e q = rw e (ap Read q)
+told-all es c e q = rw e (ap Ok q)
 
-pub told_line : (es : List Entry) (n : ℕ) → first_unclear 1 0 es ≡ n → 1 ≤ n → NotUnderstood n ≡ told es
+pub told_line : (es : List Entry) (n : ℕ) → first_unclear 1 0 es ≡ n → 1 ≤ n → Err (NotUnderstood n) ≡ told es
 unfolding told
 told_line es zero e h = absurd (omega arith)
 told_line es (suc n) e h = rw e

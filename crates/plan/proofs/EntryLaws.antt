@@ -236,10 +236,6 @@ pub entries-le : (s : List ℕ) → length (entries_of s) ≤ length s
 unfolding entries_of
 entries-le s = omega (arith, length-map (lines_of s) entry_of, lines-le s)
 
-pub above-some : (m : ℕ) → 1 ≤ m → m - 1 ≡ move_above m
-above-some zero h = absurd (omega arith)
-above-some (suc m) h = omega arith
-
 -- below fewer than 65,536 moves no number is too large
 pub above-le : (m : ℕ) → move_above m ≤ 65535 + (m - 65536)
 above-le zero = omega arith

@@ -11,7 +11,7 @@ use Rattle.laws.proofs.Bools.{is-not, clash}
 use Rattle.laws.proofs.Decisions.{lt-or}
 use Rattle.laws.proofs.IndexLaws.{any-intro, any-elim}
 use Rattle.plan.specs.declared.PlanRefusal.TheVariants.{TooManySteps, TooManyLists, LongName, NoSuchMove}
-use Rattle.plan.specs.declared.PlanVerdict.TheVariants.{Fits, Refused}
+use Rattle.std.proofs.Common.{Ok, Err}
 use Rattle.plan.specs.Names.{name_at}
 use Rattle.plan.specs.Verdict.{plan_number, too_many_steps, too_many_lists, long_name, no_such_move, plan_verdict}
 use Rattle.plan.specs.Promises.{ManySteps, LongNamed, Lost, Judging}
@@ -22,7 +22,7 @@ use Rattle.plan.proofs.VerdictLaws.{many_steps, is_long, is_lost}
 
 abbrev first : Bool → Bool → Bool → Bool → ℕ
 first a b c d =
-    plan_number (first_line Refused Fits (line TooManySteps a ∷ line TooManyLists b ∷ line LongName c ∷ line NoSuchMove d ∷ []))
+    plan_number (first_line Err (Ok tt) (line TooManySteps a ∷ line TooManyLists b ∷ line LongName c ∷ line NoSuchMove d ∷ []))
 
 -- what the number tells of the four lines
 abbrev Told : ℕ → Bool → Bool → Bool → Bool → Type 0

@@ -1,15 +1,11 @@
 -- Names of a plan: where they stand, and sums of how many there are.
 use mathlib.Core.Path.{◌≡◌, refl, sym, ap, ap₂, ◌∙◌}
 use mathlib.Core.List.{List, [], ◌∷◌, ◌++◌}
-use Prim.Native.Nat.{ℕ, zero, suc, ◌+◌, ◌-◌, ◌≤◌, ◌<◌}
+use Prim.Native.Nat.{ℕ, suc, ◌+◌, ◌-◌, ◌≤◌, ◌<◌}
 use native.Mathlib.Omega.{arith}
 use lib.ListN.{length, get_or, take, drop, get_or-eq_default}
-use lib.Seq.{take-suc, take_all}
+use lib.Seq.{take-suc}
 use Rattle.plan.specs.Names.{end_at, begin_at, name_at, names_of, index, move_name}
-
-pub begin-later : (names ends : List ℕ) (k : ℕ) → 1 ≤ k → end_at names ends (k - 1) ≡ begin_at names ends k
-begin-later names ends zero h = absurd (omega arith)
-begin-later names ends (suc k) h = let e : suc k - 1 ≡ k = omega arith in ap (end_at names ends) e
 
 -- ---- how many names
 
@@ -35,10 +31,6 @@ index_plus a b = omega arith
 
 -- ---- name k
 
-pub begin-within : (names ends : List ℕ) (k : ℕ) → begin_at names ends k ≤ length names
-begin-within names ends zero = omega arith
-begin-within names ends (suc k) = omega arith
-
 module _ (names ends : List ℕ) (k : ℕ) where
   pub name-between : {b e : ℕ} → b ≡ begin_at names ends k → e ≡ end_at names ends k → take (e - b) (drop b names) ≡ name_at names ends k
   unfolding name_at
@@ -54,10 +46,6 @@ module _ (steps : List ℕ) (j : ℕ) {at : ℕ} (e : at ≡ move_name steps j) 
   -- one move more
   pub move-more : {sum : ℕ} → j < length steps → sum ≡ index (at + (get_or steps j 0 + 1)) → sum ≡ move_name steps (j + 1)
   move-more h q = q ∙ ap (λ (n : ℕ). index (n + (get_or steps j 0 + 1))) e ∙ index_plus (names_of (take j steps)) (get_or steps j 0 + 1) ∙ ap index (sym (names_more steps j h))
-
-  -- there are no more
-  pub move_all : (i : ℕ) → length steps ≤ j → j ≤ i → at ≡ move_name steps i
-  move_all i h l = e ∙ ap (λ (s : List ℕ). index (names_of s)) (take_all j steps h ∙ sym (take_all i steps (omega arith)))
 
 -- no name stands past the ends
 pub name-past : (names ends : List ℕ) (k : ℕ) → length ends ≤ k → name_at names ends k ≡ []

@@ -1,6 +1,5 @@
 -- What reading answers, and the rooms after it.
 use mathlib.Core.Path.{◌≡◌, refl, sym, ap, ap₂, ◌∙◌}
-use mathlib.Core.Logic.{inl, inr, ⊎_elim}
 use mathlib.Core.Bool.{true, false, ◌&&◌}
 use mathlib.Core.List.{List, [], ◌∷◌, ◌++◌, map}
 use Prim.Native.Nat.{ℕ, zero, suc, ◌+◌, ◌≤◌, ◌<◌}
@@ -8,15 +7,13 @@ use native.Mathlib.Omega.{arith}
 use lib.ListN.{length, length-append}
 use lib.Dec.{leb, eqb}
 use borrow.Author.Tests.{lt-ltb, le-ltb, leb-true}
-use types.Run.{OneOf}
-use denote.Enum.Declared.{tag_of}
 use Rattle.laws.proofs.Bools.{bool_cases, on_and}
-use Rattle.plan.specs.contracts.PlanRead as PlanReadType
 use Rattle.plan.specs.declared.Counts.{Counts}
-use Rattle.plan.specs.declared.PlanRead.{PlanRead}
-use Rattle.plan.specs.declared.PlanRead.TheVariants.{Read, NotUnderstood, NoRoom, TooLong}
+use Rattle.plan.specs.declared.PlanUnread.{PlanUnread}
+use Rattle.plan.specs.declared.PlanUnread.TheVariants.{NoRoom, TooLong}
+use Rattle.std.proofs.Common.{Ok, Err}
 use Rattle.plan.specs.Lines.{lines_of, with_first, trimmed, word_of, name_of, Entry, entry_of, entries_of}
-use Rattle.plan.specs.Reading.{first_unclear, names_in, joined, ends_from, plan_names, counts_of, most_bytes, told_by, told, has_room, if_room, read_answer, room_after}
+use Rattle.plan.specs.Reading.{PlanRead, first_unclear, names_in, joined, ends_from, plan_names, counts_of, most_bytes, told_by, told, has_room, if_room, read_answer, room_after}
 use Rattle.plan.specs.Passes.{laid, no_counts}
 use Rattle.plan.proofs.LaidLaws.{laid-front, laid-append}
 use Rattle.plan.proofs.EntryLaws.{name-le}
@@ -77,64 +74,37 @@ module _ (xs ys : List (List ℕ)) where
 
 -- ---- the answer
 
--- the plan was not read
-abbrev pub NotRead : PlanRead → Type 0
-NotRead x = OneOf (1 ∷ 2 ∷ 3 ∷ []) (tag_of PlanReadType.the_type x)
-
--- it was not, if it is no plan that was read
-pub not-read : (x : PlanRead) → ((c : Counts) → x ≡ Read c → ⊥) → NotRead x
-not-read (Read c) other = absurd (other c refl)
-not-read (NotUnderstood n) other = inl refl
-not-read NoRoom other = inr (inl refl)
-not-read TooLong other = inr (inr refl)
-
-read-is-read {ℓ} : {A : Type ℓ} (c : Counts) → NotRead (Read c) → A
-read-is-read c m = ⊎_elim (λ e. absurd (omega arith)) (λ r. ⊎_elim (λ e. absurd (omega arith)) (λ e. absurd (omega arith)) r) m
-
-pub room-kept : (x : PlanRead) → NotRead x → (written room : List ℕ) → room ≡ room_after x written room
+pub room-filled : (c : Counts) (written room : List ℕ) → laid room 0 written ≡ room_after (Ok c) written room
 unfolding room_after
-room-kept (Read c) m written room = read-is-read c m
-room-kept (NotUnderstood n) m written room = refl
-room-kept NoRoom m written room = refl
-room-kept TooLong m written room = refl
+room-filled c written room = laid-front room written
 
-pub room-filled : (x : PlanRead) (c : Counts) → x ≡ Read c → (written room : List ℕ) → laid room 0 written ≡ room_after x written room
-unfolding room_after
-room-filled x c e written room = laid-front room written ∙ sym (ap (λ (y : PlanRead). room_after y written room) e)
-
-by-counts : (n : ℕ) (c d : Counts) → Read c ≡ told_by n d → c ≡ d
+by-counts : (n : ℕ) (c d : Counts) → Ok c ≡ told_by n d → c ≡ d
 by-counts zero c d e = cc
-by-counts (suc n) c d e = let z : ◌≡◌ {A = ℕ} 0 1 = cc in absurd (omega arith)
+by-counts (suc n) c d e = cc
 
-pub told-counts : (es : List Entry) (c : Counts) → Read c ≡ told es → c ≡ counts_of es
+pub told-counts : (es : List Entry) (c : Counts) → Ok c ≡ told es → c ≡ counts_of es
 unfolding told
 told-counts es c e = by-counts (first_unclear 1 0 es) c (counts_of es) e
 
 module _ (text : List ℕ) (names ends steps lists : ℕ) where
-  pub answer-long : most_bytes < length text → TooLong ≡ read_answer text names ends steps lists
+  pub answer-long : most_bytes < length text → Err TooLong ≡ read_answer text names ends steps lists
   unfolding read_answer
   answer-long h = rw (lt-ltb most_bytes (length text) h)
 
-  module _ (h : length text ≤ most_bytes) (x : PlanRead) (e : x ≡ told (entries_of text)) where
-    short : if_room x names ends steps lists ≡ read_answer text names ends steps lists
+  module _ (h : length text ≤ most_bytes) where
+    short : {x : PlanRead} → x ≡ told (entries_of text) → if_room x names ends steps lists ≡ read_answer text names ends steps lists
     unfolding read_answer
-    short = ap (λ (y : PlanRead). if_room y names ends steps lists) e ∙ rw (le-ltb most_bytes (length text) h)
+    short e = ap (λ (y : PlanRead). if_room y names ends steps lists) e ∙ rw (le-ltb most_bytes (length text) h)
 
-    pub answer-not : NotRead x → x ≡ read_answer text names ends steps lists
-    answer-not m = same x m ∙ short
-      where
-        same : (y : PlanRead) → NotRead y → y ≡ if_room y names ends steps lists
-        same (Read c) n = read-is-read c n
-        same (NotUnderstood k) n = refl
-        same NoRoom n = refl
-        same TooLong n = refl
+    pub answer-not : (why : PlanUnread) → Err why ≡ told (entries_of text) → Err why ≡ read_answer text names ends steps lists
+    answer-not why e = short e
 
-    module _ (c : Counts) (r : x ≡ Read c) where
-      pub answer-full : has_room c names ends steps lists ≡ false → NoRoom ≡ read_answer text names ends steps lists
-      answer-full o = sym (ap (λ (y : PlanRead). if_room y names ends steps lists) r ∙ rw o) ∙ short
+    module _ (c : Counts) (e : Ok c ≡ told (entries_of text)) where
+      pub answer-full : has_room c names ends steps lists ≡ false → Err NoRoom ≡ read_answer text names ends steps lists
+      answer-full o = let none : Err NoRoom ≡ if_room (Ok c) names ends steps lists = rw o in none ∙ short e
 
-      pub answer-read : has_room c names ends steps lists ≡ true → x ≡ read_answer text names ends steps lists
-      answer-read o = r ∙ sym (ap (λ (y : PlanRead). if_room y names ends steps lists) r ∙ rw o) ∙ short
+      pub answer-read : has_room c names ends steps lists ≡ true → Ok c ≡ read_answer text names ends steps lists
+      answer-read o = let all : Ok c ≡ if_room (Ok c) names ends steps lists = rw o in all ∙ short e
 
 -- each room is large enough
 pub rooms : (c : Counts) (names ends steps lists : ℕ) → has_room c names ends steps lists ≡ true

@@ -7,7 +7,7 @@ use native.Mathlib.Omega.{arith}
 use lib.ListN.{length, get_or, length-append}
 use Rattle.laws.proofs.Bools.{bool_cases}
 use Rattle.plan.specs.declared.Counts.{Counts}
-use Rattle.plan.specs.declared.PlanRead.TheVariants.{Read}
+use Rattle.std.proofs.Common.{Ok}
 use Rattle.plan.specs.Lines.{Entry, passed, move, step, list, unclear, entries_of}
 use Rattle.plan.specs.Names.{name_at, move_name, step_name, list_name}
 use Rattle.plan.specs.Reading.{is_unclear, moves_after, first_unclear, names_in, all_names, joined, ends_from, steps_below, steps_of, move_above, lists_of, plan_names, plan_ends, plan_steps, most_bytes, read_answer}
@@ -133,7 +133,7 @@ back es good =
 
 -- ---- from the answer
 
-read-good : (text : List ℕ) (names ends steps lists : ℕ) (c : Counts) → read_answer text names ends steps lists ≡ Read c → Good (entries_of text)
+read-good : (text : List ℕ) (names ends steps lists : ℕ) (c : Counts) → read_answer text names ends steps lists ≡ Ok c → Good (entries_of text)
 read-good text names ends steps lists c e =
     let r = read-tells text names ends steps lists c e in (r.1, omega (arith, r.0, entries-le text))
 

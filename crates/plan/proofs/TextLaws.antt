@@ -1,6 +1,7 @@
 -- The bytes of a text one at a time: blanks at the front and at the end of a line, a line's length, a word at its front.
-use mathlib.Core.Path.{◌≡◌, refl, sym, ap, ap₂, ◌∙◌}
-use mathlib.Core.Bool.{Bool, true, false, cond}
+use mathlib.Core.Path.{◌≡◌, refl, sym, ap, ◌∙◌}
+use mathlib.Core.Bool.{Bool, true, false, cond, ◌&&◌, not, false≢true}
+use lib.Pointwise.{pointwise}
 use mathlib.Core.List.{List, [], ◌∷◌, ◌++◌}
 use Prim.Native.Nat.{ℕ, suc, ◌+◌, ◌-◌, ◌≤◌, ◌<◌}
 use native.Mathlib.Numerals.{add-one}
@@ -90,23 +91,41 @@ length-within (b ∷ s) = go (eqb b 10) (length-within s)
 
 -- ---- a word at the front
 
-module _ (w s : List ℕ) (i : ℕ) where
-  pub begins-short : i < length w → length s ≤ i → begins (drop i w) (drop i s) ≡ false
-  unfolding begins
-  begins-short h l = ap₂ begins (drop_more w i h) (drop_of_length-le s {i = i} l)
+apart : (a b c : Bool) → (a && (b && c)) ≡ ((a && b) && c)
+apart true b c = refl
+apart false b c = refl
 
-  pub begins-not : i < length w → i < length s → (get_or s i 0 ≡ get_or w i 0 → ⊥) → begins (drop i w) (drop i s) ≡ false
-  unfolding begins
-  begins-not h l n = ap₂ begins (drop_more w i h) (drop_more s i l) ∙ rw (ne_eqb (get_or s i 0) (get_or w i 0) n)
+off : (p q : Bool) → true ≡ not p → false ≡ (p && q)
+off true q e = absurd (false≢true (sym e))
+off false q e = refl
 
-  pub begins-more : i < length w → i < length s → get_or s i 0 ≡ get_or w i 0 → begins (drop i w) (drop i s) ≡ begins (drop (i + 1) w) (drop (i + 1) s)
-  unfolding begins
-  begins-more h l e = ap₂ begins (drop_more w i h) (drop_more s i l) ∙ rw (eq-eqb (get_or s i 0) (get_or w i 0) e)
+on : (p q : Bool) → false ≡ not p → q ≡ (p && q)
+on true q e = refl
+on false q e = absurd (false≢true e)
 
-  pub begins_none : length w ≤ i → length s ≤ i → begins (drop i w) (drop i s) ≡ false
-  unfolding begins
-  begins_none h l = ap₂ begins (drop_of_length-le w {i = i} h) (drop_of_length-le s {i = i} l)
+pub begins-short : (w s : List ℕ) → length s ≤ length w → false ≡ begins w s
+unfolding begins
+begins-short [] [] h = refl
+begins-short [] (b ∷ s) h = absurd (omega arith)
+begins-short (v ∷ w) [] h = refl
+begins-short (v ∷ w) (b ∷ s) h = go (eqb b v) (begins-short w s (omega arith))
+  where
+    go : (t : Bool) → false ≡ begins w s → false ≡ (t && begins w s)
+    go true e = e
+    go false e = refl
 
-  pub begins-end : length w ≤ i → i < length s → begins (drop i w) (drop i s) ≡ is_blank false (get_or s i 0)
-  unfolding begins
-  begins-end h l = ap₂ begins (drop_of_length-le w {i = i} h) (drop_more s i l)
+begins-cut : (w s : List ℕ) → length w < length s → begins w s ≡ (pointwise eqb (take (length w) s) w && is_blank false (get_or s (length w) 0))
+unfolding begins
+begins-cut [] [] h = absurd (omega arith)
+begins-cut [] (b ∷ s) h = refl
+begins-cut (v ∷ w) [] h = absurd (omega arith)
+begins-cut (v ∷ w) (b ∷ s) h =
+    ap (λ (t : Bool). eqb b v && t) (begins-cut w s (omega arith))
+    ∙ apart (eqb b v) (pointwise eqb (take (length w) s) w) (is_blank false (get_or s (length w) 0))
+
+module _ (w s : List ℕ) (h : length w < length s) {r : Bool} (e : r ≡ not (pointwise eqb (take (length w) s) w)) where
+  pub begins-other : r ≡ true → false ≡ begins w s
+  begins-other t = off (pointwise eqb (take (length w) s) w) (is_blank false (get_or s (length w) 0)) (sym t ∙ e) ∙ sym (begins-cut w s h)
+
+  pub begins-same : r ≡ false → is_blank false (get_or s (length w) 0) ≡ begins w s
+  begins-same t = on (pointwise eqb (take (length w) s) w) (is_blank false (get_or s (length w) 0)) (sym t ∙ e) ∙ sym (begins-cut w s h)

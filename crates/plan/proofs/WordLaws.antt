@@ -2,10 +2,12 @@
 use mathlib.Core.Path.{◌≡◌, refl, sym, ap, ◌∙◌}
 use mathlib.Core.Bool.{Bool, true, false}
 use mathlib.Core.List.{List, [], ◌∷◌}
-use Prim.Native.Nat.{ℕ, ◌<◌}
+use Prim.Native.Nat.{ℕ, ◌-◌, min}
 use native.Mathlib.Omega.{arith}
-use lib.ListN.{length, get_or, drop, drop_of_length-le}
+use lib.ListN.{length, get_or, take, drop, drop_of_length-le}
 use borrow.Author.Tests.{eq-eqb, ne_eqb}
+use Rattle.laws.proofs.Decisions.{lt-or}
+use Rattle.plan.proofs.TextLaws.{drop-whole}
 use Rattle.plan.specs.declared.Word.TheVariants.{Passed, Move, Step, ClassList, Unclear}
 use Rattle.plan.specs.Lines.{past_blanks, move_word, step_word, list_word, begins, by_word, word_of, name_of}
 
@@ -41,9 +43,12 @@ module _ (s : List ℕ) (n : length s ≡ 0 → ⊥) (e : get_or s 0 0 ≡ 35 �
 
 -- ---- the name
 
-pub name-short : (s : List ℕ) → length s < 4 → [] ≡ name_of s
-unfolding name_of past_blanks
-name-short s h = sym (ap (past_blanks false) (drop_of_length-le s {i = 4} (omega arith)))
+pub past_word : (s : List ℕ) {n : ℕ} → n ≡ min (length s) 4 → take (length s - n) (drop n s) ≡ drop 4 s
+past_word s {n} e =
+    drop-whole s n
+    ∙ lt-or (length s) 4
+    (λ h. drop_of_length-le s {i = n} (omega arith) ∙ sym (drop_of_length-le s {i = 4} (omega arith)))
+    (λ h. let four : n ≡ 4 = omega arith in ap (λ (k : ℕ). drop k s) four)
 
 pub name_is : (s : List ℕ) {x y : List ℕ} → x ≡ past_blanks false y → y ≡ drop 4 s → x ≡ name_of s
 unfolding name_of

@@ -1,7 +1,7 @@
 -- What is promised of plans.
-use Rattle.std.specs.Prelude.{◌≡◌, Bool, true, false, cond, List, [], ◌∷◌, ◌++◌, ◌⊎◌, ℕ, suc, ◌+◌, ◌≤◌, ◌<◌, length, get_or}
+use Rattle.std.specs.Prelude.{◌≡◌, Bool, true, false, cond, Ok, Err, List, [], ◌∷◌, ◌++◌, ◌⊎◌, ℕ, suc, ◌+◌, ◌≤◌, ◌<◌, length, get_or}
 use Rattle.plan.specs.declared.Counts.{Counts}
-use Rattle.plan.specs.declared.PlanRead.TheVariants.{Read, NotUnderstood, NoRoom, TooLong}
+use Rattle.plan.specs.declared.PlanUnread.TheVariants.{NotUnderstood, NoRoom, TooLong}
 use Rattle.plan.specs.Lines.{lines_of, trimmed, move_word, step_word, list_word, Entry, passed, move, step, list, unclear, entry_of, entries_of, past_blanks}
 use Rattle.plan.specs.Names.{name_at, move_name, step_name, list_name}
 use Rattle.plan.specs.Reading.{is_unclear, first_unclear, joined, ends_from, move_above, plan_names, plan_ends, plan_steps, plan_lists, counts_of, read_answer}
@@ -142,12 +142,12 @@ RoomFor es names ends steps lists =
 
 -- each answer is given exactly when it is due: first the length, then lines that are not understood, then the rooms
 pub record Answering (text : List ℕ) (names ends steps lists : ℕ) : Type 0 where
-  pub too_long : Exactly (read_answer text names ends steps lists ≡ TooLong) (65536 < length text)
+  pub too_long : Exactly (read_answer text names ends steps lists ≡ Err TooLong) (65536 < length text)
   pub not_understood : (n : ℕ)
-      → Exactly (read_answer text names ends steps lists ≡ NotUnderstood n) ((length text ≤ 65536) × (1 ≤ n) × (first_unclear 1 0 (entries_of text) ≡ n))
-  pub no_room : Exactly (read_answer text names ends steps lists ≡ NoRoom)
+      → Exactly (read_answer text names ends steps lists ≡ Err (NotUnderstood n)) ((length text ≤ 65536) × (1 ≤ n) × (first_unclear 1 0 (entries_of text) ≡ n))
+  pub no_room : Exactly (read_answer text names ends steps lists ≡ Err NoRoom)
       ((length text ≤ 65536) × (first_unclear 1 0 (entries_of text) ≡ 0) × (RoomFor (entries_of text) names ends steps lists → ⊥))
-  pub read : Exactly (read_answer text names ends steps lists ≡ Read (counts_of (entries_of text)))
+  pub read : Exactly (read_answer text names ends steps lists ≡ Ok (counts_of (entries_of text)))
       ((length text ≤ 65536) × (first_unclear 1 0 (entries_of text) ≡ 0) × RoomFor (entries_of text) names ends steps lists)
 
 pub record Reading : Type 0 where
@@ -155,7 +155,7 @@ pub record Reading : Type 0 where
   pub names_apart : (before after : List (List ℕ)) (x : List ℕ)
       → name_at (joined (before ++ (x ∷ after))) (ends_from 0 (before ++ (x ∷ after))) (length before) ≡ x
   -- a plan that was read says what the lines of its text say
-  pub read_back : (text : List ℕ) (names ends steps lists : ℕ) (counts : Counts) → read_answer text names ends steps lists ≡ Read counts
+  pub read_back : (text : List ℕ) (names ends steps lists : ℕ) (counts : Counts) → read_answer text names ends steps lists ≡ Ok counts
       → ReadBack (entries_of text)
   -- the first line that is not understood is named by its number, from 1
   pub first_bad : (above below : List Entry) (e : Entry) → first_unclear 1 0 above ≡ 0 → is_unclear (how_many a_move above) e ≡ true

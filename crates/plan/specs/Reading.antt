@@ -1,8 +1,8 @@
 -- The plan that the lines of a text say, and what reading a text into lent rooms answers.
-use Rattle.std.specs.Prelude.{ℕ, zero, suc, ◌+◌, Bool, true, false, cond, ◌&&◌, List, [], ◌∷◌, ◌++◌, length, drop, ltb, leb, eqb}
+use Rattle.std.specs.Prelude.{ℕ, zero, suc, ◌+◌, Bool, true, false, cond, ◌&&◌, Result, Ok, Err, List, [], ◌∷◌, ◌++◌, length, drop, ltb, leb, eqb}
 use Rattle.plan.specs.declared.Counts.{Counts}
-use Rattle.plan.specs.declared.PlanRead.{PlanRead}
-use Rattle.plan.specs.declared.PlanRead.TheVariants.{Read, NotUnderstood, NoRoom, TooLong}
+use Rattle.plan.specs.declared.PlanUnread.{PlanUnread}
+use Rattle.plan.specs.declared.PlanUnread.TheVariants.{NotUnderstood, NoRoom, TooLong}
 use Rattle.plan.specs.Lines.{Entry, passed, move, step, list, unclear, entries_of}
 
 -- ---- lines that are not understood
@@ -124,10 +124,14 @@ counts_of es =
 abbrev pub most_bytes : ℕ
 most_bytes = 65536
 
+-- how much of each room was filled, or why the text is not read
+abbrev pub PlanRead : Type 0
+PlanRead = Result Counts PlanUnread
+
 -- the first line that is not understood, or how much the plan takes
 abbrev pub told_by : ℕ → Counts → PlanRead
-told_by zero counts = Read counts
-told_by (suc n) counts = NotUnderstood (suc n)
+told_by zero counts = Ok counts
+told_by (suc n) counts = Err (NotUnderstood (suc n))
 
 unfoldable pub told : List Entry → PlanRead
 told es = told_by (first_unclear 1 0 es) (counts_of es)
@@ -139,18 +143,14 @@ has_room counts names ends steps lists =
 
 -- a plan that no room is too small for
 abbrev pub if_room : PlanRead → ℕ → ℕ → ℕ → ℕ → PlanRead
-if_room (Read counts) names ends steps lists = cond (has_room counts names ends steps lists) (Read counts) NoRoom
-if_room (NotUnderstood n) names ends steps lists = NotUnderstood n
-if_room NoRoom names ends steps lists = NoRoom
-if_room TooLong names ends steps lists = TooLong
+if_room (Ok counts) names ends steps lists = cond (has_room counts names ends steps lists) (Ok counts) (Err NoRoom)
+if_room (Err why) names ends steps lists = Err why
 
 -- reading into rooms of so many elements
 unfoldable pub read_answer : List ℕ → ℕ → ℕ → ℕ → ℕ → PlanRead
-read_answer text names ends steps lists = cond (ltb most_bytes (length text)) TooLong (if_room (told (entries_of text)) names ends steps lists)
+read_answer text names ends steps lists = cond (ltb most_bytes (length text)) (Err TooLong) (if_room (told (entries_of text)) names ends steps lists)
 
 -- a room after it: what was written stands at its front; refused reading leaves it as it was
 unfoldable pub room_after : PlanRead → List ℕ → List ℕ → List ℕ
-room_after (Read counts) written room = written ++ drop (length written) room
-room_after (NotUnderstood n) written room = room
-room_after NoRoom written room = room
-room_after TooLong written room = room
+room_after (Ok counts) written room = written ++ drop (length written) room
+room_after (Err why) written room = room

@@ -1,11 +1,9 @@
 -- What a plan is refused by, judged over the whole plan, line by line.
-use Rattle.std.specs.Prelude.{ℕ, Bool, List, [], ◌∷◌, length, get_or, ltb, leb}
+use Rattle.std.specs.Prelude.{ℕ, Bool, Result, Ok, Err, List, [], ◌∷◌, length, get_or, ltb, leb}
 use Rattle.laws.specs.Index.{any_below}
 use Rattle.laws.specs.Lines.{Line, line, first_line}
 use Rattle.plan.specs.declared.PlanRefusal.{PlanRefusal}
 use Rattle.plan.specs.declared.PlanRefusal.TheVariants.{TooManySteps, TooManyLists, LongName, NoSuchMove}
-use Rattle.plan.specs.declared.PlanVerdict.{PlanVerdict}
-use Rattle.plan.specs.declared.PlanVerdict.TheVariants.{Fits, Refused}
 use Rattle.plan.specs.Names.{name_at}
 
 -- steps of a move
@@ -26,10 +24,14 @@ refusal_number TooManyLists = 26
 refusal_number LongName = 27
 refusal_number NoSuchMove = 28
 
+-- what judging a plan answers: that it fits, or why not
+abbrev pub PlanVerdict : Type 0
+PlanVerdict = Result (Unit {0}) PlanRefusal
+
 -- a verdict as a number: 0 for a plan that fits
 abbrev pub plan_number : PlanVerdict → ℕ
-plan_number Fits = 0
-plan_number (Refused r) = refusal_number r
+plan_number (Ok fits) = 0
+plan_number (Err r) = refusal_number r
 
 -- 25: some move has more than 16 steps
 abbrev pub too_many_steps : List ℕ → Bool
@@ -57,4 +59,4 @@ plan_lines names ends steps lists =
 
 -- the first line that holds
 unfoldable pub plan_verdict : List ℕ → List ℕ → List ℕ → List ℕ → PlanVerdict
-plan_verdict names ends steps lists = first_line Refused Fits (plan_lines names ends steps lists)
+plan_verdict names ends steps lists = first_line Err (Ok tt) (plan_lines names ends steps lists)

@@ -1,6 +1,6 @@
 -- Two texts and what is read from them.
-use Rattle.std.specs.Prelude.{◌≡◌, List, [], ◌∷◌, ℕ}
-use Rattle.plan.specs.declared.PlanRead.TheVariants.{Read, NotUnderstood}
+use Rattle.std.specs.Prelude.{◌≡◌, Ok, Err, List, [], ◌∷◌, ℕ}
+use Rattle.plan.specs.declared.PlanUnread.TheVariants.{NotUnderstood}
 use Rattle.plan.specs.Lines.{passed, move, step, list, entries_of}
 use Rattle.plan.specs.Reading.{plan_names, plan_ends, plan_steps, plan_lists, read_answer}
 use Rattle.plan.specs.Verdict.{plan_number, plan_verdict}
@@ -26,8 +26,8 @@ pub record Worked : Type 0 where
   pub steps : plan_steps (entries_of text) ≡ 1 ∷ []
   pub lists : plan_lists (entries_of text) ≡ 65535 ∷ 0 ∷ []
   -- rooms of just this size hold it
-  pub fits : read_answer text 6 4 1 2 ≡ Read (record { names = 6; ends = 4; moves = 1; lists = 2 })
+  pub fits : read_answer text 6 4 1 2 ≡ Ok (record { names = 6; ends = 4; moves = 1; lists = 2 })
   -- and it is refused, since a list's move is not there
   pub lost : plan_number (plan_verdict (plan_names (entries_of text)) (plan_ends (entries_of text)) (plan_steps (entries_of text)) (plan_lists (entries_of text))) ≡ 28
   -- a move without a name is not understood
-  pub second : read_answer nameless 6 4 1 2 ≡ NotUnderstood 2
+  pub second : read_answer nameless 6 4 1 2 ≡ Err (NotUnderstood 2)

@@ -1,18 +1,25 @@
 // The plan of a record move: moves with their named steps, and class lists that each belong to a move.
 #![tactic(auto)]
 
-ghost use Rattle.std.specs.Prelude.{◌≡◌, ◌+◌, ◌-◌, ◌≤◌, length, take, drop};
+ghost use Rattle.std.specs.Prelude.{◌≡◌, ◌+◌, ◌-◌, ◌≤◌, ◌<◌, ◌∷◌, length, take, drop};
 ghost use Rattle.plan.specs.Names.{index, end_at, begin_at, name_at, move_name, step_name, list_name};
 ghost use Rattle.plan.specs.Verdict.{refusal_number, plan_number, too_many_steps, long_name, no_such_move, plan_verdict};
-ghost use Rattle.plan.specs.Lines.{is_blank, past_blanks, up_to_blanks, trimmed, begins, word_of, name_of, entries_of};
+ghost use Rattle.plan.specs.Lines.{is_blank, past_blanks, up_to_blanks, trimmed, begins, word_of, name_of, entry_by, entries_of};
 ghost use Rattle.plan.specs.Reading.{names_in, joined, ends_from, steps_below, steps_of, move_above, lists_of, plan_names, plan_ends, plan_steps, plan_lists, most_bytes, told, has_room, read_answer, room_after};
 ghost use Rattle.plan.specs.Passes.{line_length, is_move, is_step, is_list, not_clear, has_name, with_line, laid};
 
-// A plan's limits: steps of a move, class lists, bytes of a name, bytes of the text that staff write.
-#[derive(Drop)]
-pub struct Plan;
+// A plan in memory: the bytes of its names, where each name ends, for each move how many steps it has, for each class list the number of its move.
+// `judged`, `read`, `name`, `move_name`, `step_name` and `list_name` are promised over these lists by themselves, and keep them as parameters.
+#[derive(Clone, Copy)]
+pub struct Plan<'a> {
+    pub names: &'a [u8],
+    pub ends: &'a [u32],
+    pub steps: &'a [u16],
+    pub lists: &'a [u16],
+}
 
-impl Plan {
+// A plan's limits: steps of a move, class lists, bytes of a name, bytes of the text that staff write.
+impl Plan<'_> {
     pub const STEPS: usize = 16;
 
     pub const LISTS: usize = 30;
@@ -20,9 +27,6 @@ impl Plan {
     pub const NAME: usize = 24;
 
     pub const BYTES: usize = 65536;
-
-    // The highest index of a name.
-    const HIGHEST: usize = 18446744073709551615;
 }
 
 // Why a plan is refused.
@@ -48,22 +52,16 @@ impl PlanRefusal {
     }
 }
 
-// What judging a plan answers.
-#[derive(Drop)]
-pub enum PlanVerdict {
-    Fits,
-    Refused(PlanRefusal),
-}
+// What judging a plan answers: that it fits, or the reason why not.
+pub type PlanVerdict = Result<(), PlanRefusal>;
 
-impl PlanVerdict {
-    // The number of its refusal, 0 for a plan that fits.
-    pub fn number(self) -> u8
-        ensures { result ≡ plan_number self }
-    {
-        match self {
-            PlanVerdict::Fits => 0,
-            PlanVerdict::Refused(refusal) => refusal.number(),
-        }
+// The number of a verdict's refusal, 0 for a plan that fits.
+pub fn plan_number(verdict: PlanVerdict) -> u8
+    ensures { result ≡ plan_number verdict }
+{
+    match verdict {
+        Ok(()) => 0,
+        Err(refusal) => refusal.number(),
     }
 }
 
@@ -71,14 +69,10 @@ impl PlanVerdict {
 fn name_end(names: &[u8], ends: &[u32], k: usize) -> usize
     ensures { result ≡ end_at names.now ends.now k }
 {
-    if ends.len() <= k {
-        return 0;
+    match ends.get(k) {
+        Some(end) => names.len().min(*end as usize),
+        None => 0,
     }
-    let end = ends[k] as usize;
-    if names.len() < end {
-        return names.len();
-    }
-    end
 }
 
 // Where name k begins.
@@ -97,21 +91,7 @@ pub fn name<'a>(names: &'a [u8], ends: &[u32], k: usize) -> &'a [u8]
 {
     let begin = name_begin(names, ends, k);
     let end = name_end(names, ends, k);
-    if end < begin {
-        return &names[begin..begin];
-    }
-    &names[begin..end]
-}
-
-// A sum of two counts of names, as an index.
-fn plus(a: usize, b: usize) -> usize
-    ensures { result ≡ index (a + b) }
-{
-    let left = Plan::HIGHEST - a;
-    if left < b {
-        return Plan::HIGHEST;
-    }
-    a + b
+    &names[begin..begin.max(end)]
 }
 
 // Which name is that of move i.
@@ -119,14 +99,9 @@ pub fn move_name(steps: &[u16], i: usize) -> usize
     ensures { result ≡ move_name steps.now i }
 {
     let mut at: usize = 0;
-    let mut j: usize = 0;
-    while j < i {
-        if steps.len() <= j {
-            return at;
-        }
-        let own = steps[j] as usize + 1;
-        at = plus(at, own);
-        j += 1;
+    let before = i.min(steps.len());
+    for own in &steps[..before] {
+        at = at.saturating_add(*own as usize + 1);
     }
     at
 }
@@ -135,59 +110,35 @@ pub fn move_name(steps: &[u16], i: usize) -> usize
 pub fn step_name(steps: &[u16], i: usize, k: usize) -> usize
     ensures { result ≡ step_name steps.now i k }
 {
-    let at = move_name(steps, i);
-    plus(at, k)
+    move_name(steps, i).saturating_add(k)
 }
 
 // Which name is that of class list j.
 pub fn list_name(steps: &[u16], j: usize) -> usize
     ensures { result ≡ list_name steps.now j }
 {
-    let at = move_name(steps, steps.len());
-    plus(at, j)
+    move_name(steps, steps.len()).saturating_add(j)
 }
 
 // Some move has too many steps.
 fn too_many_steps(steps: &[u16]) -> bool
     ensures { result ≡ too_many_steps steps.now }
 {
-    let mut i: usize = 0;
-    while i < steps.len() {
-        if Plan::STEPS < steps[i] as usize {
-            return true;
-        }
-        i += 1;
-    }
-    false
+    steps.iter().any(|own| Plan::STEPS < *own as usize)
 }
 
 // Some name has too many bytes.
 fn long_name(names: &[u8], ends: &[u32]) -> bool
     ensures { result ≡ long_name names.now ends.now }
 {
-    let mut k: usize = 0;
-    while k < ends.len() {
-        let bytes = name(names, ends, k);
-        if Plan::NAME < bytes.len() {
-            return true;
-        }
-        k += 1;
-    }
-    false
+    (0..ends.len()).any(|k| Plan::NAME < name(names, ends, k).len())
 }
 
 // Some list's move is not there.
 fn no_such_move(steps: &[u16], lists: &[u16]) -> bool
     ensures { result ≡ no_such_move steps.now lists.now }
 {
-    let mut j: usize = 0;
-    while j < lists.len() {
-        if steps.len() <= lists[j] as usize {
-            return true;
-        }
-        j += 1;
-    }
-    false
+    lists.iter().any(|own| steps.len() <= *own as usize)
 }
 
 // Whether the plan fits, or the first reason why not.
@@ -195,24 +146,24 @@ pub fn judged(names: &[u8], ends: &[u32], steps: &[u16], lists: &[u16]) -> PlanV
     ensures { result ≡ plan_verdict names.now ends.now steps.now lists.now }
 {
     if too_many_steps(steps) {
-        return PlanVerdict::Refused(PlanRefusal::TooManySteps);
+        return Err(PlanRefusal::TooManySteps);
     }
     if Plan::LISTS < lists.len() {
-        return PlanVerdict::Refused(PlanRefusal::TooManyLists);
+        return Err(PlanRefusal::TooManyLists);
     }
     if long_name(names, ends) {
-        return PlanVerdict::Refused(PlanRefusal::LongName);
+        return Err(PlanRefusal::LongName);
     }
     if no_such_move(steps, lists) {
-        return PlanVerdict::Refused(PlanRefusal::NoSuchMove);
+        return Err(PlanRefusal::NoSuchMove);
     }
-    PlanVerdict::Fits
+    Ok(())
 }
 
 // ---- the text that staff write
 
 // What a line begins with: it is passed over, or names a move, a step or a class list, or is none of these.
-#[derive(Clone, Copy)]
+#[derive(Clone, Copy, PartialEq, Eq)]
 enum Word {
     Passed,
     Move,
@@ -230,15 +181,16 @@ pub struct Counts {
     pub lists: usize,
 }
 
-// What reading the text of a plan answers: how much of each room was filled; the number of the first line that is not understood, from 1; that a
-// room is too small; that the text is too long. In all but the first case the rooms are as they were.
-#[derive(Drop)]
-pub enum PlanRead {
-    Read(Counts),
+// Why the text of a plan is not read: the first line that is not understood, by its number from 1; a room is too small; the text is too long.
+#[derive(Clone, Copy)]
+pub enum PlanUnread {
     NotUnderstood(usize),
     NoRoom,
     TooLong,
 }
+
+// What reading the text of a plan answers: how much of each room was filled, or why it is not read, and then the rooms are as they were.
+pub type PlanRead = Result<Counts, PlanUnread>;
 
 // How far the names are written: bytes and names.
 #[derive(Drop)]
@@ -251,49 +203,29 @@ impl Word {
     fn is_move(self) -> bool
         ensures { result ≡ is_move self }
     {
-        match self {
-            Word::Passed => false,
-            Word::Move => true,
-            Word::Step => false,
-            Word::ClassList => false,
-            Word::Unclear => false,
-        }
+        self == Word::Move
     }
 
     fn is_step(self) -> bool
         ensures { result ≡ is_step self }
     {
-        match self {
-            Word::Passed => false,
-            Word::Move => false,
-            Word::Step => true,
-            Word::ClassList => false,
-            Word::Unclear => false,
-        }
+        self == Word::Step
     }
 
     fn is_list(self) -> bool
         ensures { result ≡ is_list self }
     {
-        match self {
-            Word::Passed => false,
-            Word::Move => false,
-            Word::Step => false,
-            Word::ClassList => true,
-            Word::Unclear => false,
-        }
+        self == Word::ClassList
     }
 
-    // The line has a name that is written: of a move or a step, or of a class list.
+    // The line has a name that is written: of a move or a step, or of a class list. Which of the two is a flag, as in `names_in`, of which the contract of `read` is made.
     fn has_name(self, lists: bool) -> bool
         ensures { result ≡ has_name self lists }
     {
         match self {
-            Word::Passed => false,
-            Word::Move => !lists,
-            Word::Step => !lists,
+            Word::Move | Word::Step => !lists,
             Word::ClassList => lists,
-            Word::Unclear => false,
+            Word::Passed | Word::Unclear => false,
         }
     }
 
@@ -302,63 +234,54 @@ impl Word {
         ensures { result ≡ not_clear self moves }
     {
         match self {
-            Word::Passed => false,
-            Word::Move => false,
             Word::Step => moves == 0,
-            Word::ClassList => false,
+            Word::Passed | Word::Move | Word::ClassList => false,
             Word::Unclear => true,
         }
     }
 }
 
-// A blank or a tab; around a line a carriage return too.
+// A blank or a tab; around a line a carriage return too. Both are asked for by the flag `around`: crate script calls this function by it, and `is_blank` and `past_blanks` of specs/Lines take it.
 pub fn is_blank(b: u8, around: bool) -> bool
     ensures { result ≡ is_blank around b }
 {
-    (b == 32) | ((b == 9) | (around & (b == 13)))
+    b == b' ' || (b == b'\t' || (around && b == b'\r'))
 }
 
 // Without the blanks at the front.
 pub fn past_blanks<'a>(line: &'a [u8], around: bool) -> &'a [u8]
     ensures { result.now ≡ past_blanks around line.now }
 {
-    let mut i: usize = 0;
-    while i < line.len() {
-        if !is_blank(line[i], around) {
+    for (i, b) in line.iter().enumerate() {
+        if !is_blank(*b, around) {
             return &line[i..];
         }
-        i += 1;
     }
-    &line[i..]
+    &line[line.len()..]
 }
 
 // Without the blanks at the end.
 fn up_to_blanks<'a>(line: &'a [u8]) -> &'a [u8]
     ensures { result.now ≡ up_to_blanks line.now }
 {
-    let mut n = line.len();
-    while 0 < n {
-        let last = n - 1;
+    for last in (0..line.len()).rev() {
         if !is_blank(line[last], true) {
-            return &line[..n];
+            return &line[..last + 1];
         }
-        n = last;
     }
-    &line[..n]
+    &line[..0]
 }
 
 // Where the line that starts at a place ends.
 pub fn line_end(text: &[u8], at: usize) -> usize
     ensures { result ≡ at + line_length (drop at text.now) }
 {
-    let mut end = at;
-    while end < text.len() {
-        if text[end] == 10 {
+    for end in at..text.len() {
+        if text[end] == b'\n' {
             return end;
         }
-        end += 1;
     }
-    end
+    at.max(text.len())
 }
 
 // What is left of the line between two places.
@@ -374,30 +297,18 @@ fn line_between<'a>(text: &'a [u8], at: usize, end: usize) -> &'a [u8]
 fn begins_with(line: &[u8], word: &[u8]) -> bool
     ensures { result ≡ begins word.now line.now }
 {
-    let mut i: usize = 0;
-    while i < word.len() {
-        if line.len() <= i {
-            return false;
-        }
-        if line[i] != word[i] {
-            return false;
-        }
-        i += 1;
-    }
-    if line.len() <= i {
+    let n = word.len();
+    if line.len() <= n || &line[..n] != word {
         return false;
     }
-    is_blank(line[i], false)
+    is_blank(line[n], false)
 }
 
 // What a line begins with.
 fn word_of(line: &[u8]) -> Word
     ensures { result ≡ word_of line.now }
 {
-    if line.len() == 0 {
-        return Word::Passed;
-    }
-    if line[0] == 35 {
+    if line.is_empty() || line[0] == b'#' {
         return Word::Passed;
     }
     if begins_with(line, b"move") {
@@ -416,39 +327,39 @@ fn word_of(line: &[u8]) -> Word
 fn name_of<'a>(line: &'a [u8]) -> &'a [u8]
     ensures { result.now ≡ name_of line.now }
 {
-    if line.len() < 4 {
-        return &line[..0];
-    }
-    past_blanks(&line[4..], false)
+    let letters = line.len().min(4);
+    past_blanks(&line[letters..], false)
 }
 
 impl Counts {
+    const NONE: Counts = Counts {
+        names: 0,
+        ends: 0,
+        moves: 0,
+        lists: 0,
+    };
+
     // With a line more, whose name has so many bytes.
     fn with_line(self, word: Word, bytes: usize) -> Counts
         requires { (self.names + bytes ≤ most_bytes) × (self.ends ≤ most_bytes) × (self.moves ≤ most_bytes) × (self.lists ≤ most_bytes) }
         ensures { result ≡ with_line self word bytes }
     {
+        let named = Counts {
+            names: self.names + bytes,
+            ends: self.ends + 1,
+            ..self
+        };
         match word {
-            Word::Passed => self,
+            Word::Passed | Word::Unclear => self,
+            Word::Step => named,
             Word::Move => Counts {
-                names: self.names + bytes,
-                ends: self.ends + 1,
                 moves: self.moves + 1,
-                lists: self.lists,
-            },
-            Word::Step => Counts {
-                names: self.names + bytes,
-                ends: self.ends + 1,
-                moves: self.moves,
-                lists: self.lists,
+                ..named
             },
             Word::ClassList => Counts {
-                names: self.names + bytes,
-                ends: self.ends + 1,
-                moves: self.moves,
                 lists: self.lists + 1,
+                ..named
             },
-            Word::Unclear => self,
         }
     }
 
@@ -456,8 +367,33 @@ impl Counts {
     fn fit(self, names: usize, ends: usize, steps: usize, lists: usize) -> bool
         ensures { result ≡ has_room self names ends steps lists }
     {
-        (self.names <= names)
-            & ((self.ends <= ends) & ((self.moves <= steps) & (self.lists <= lists)))
+        self.names <= names && (self.ends <= ends && (self.moves <= steps && self.lists <= lists))
+    }
+}
+
+// A line of the text: its word, what stands between its blanks, and where the next line starts. Passes go on by that place and not by a count: how long a
+// line is shows only as it is read.
+#[derive(Clone, Copy)]
+struct Said<'a> {
+    word: Word,
+    line: &'a [u8],
+    next: usize,
+}
+
+// The line that starts at a place.
+fn said_at<'a>(text: &'a [u8], at: usize) -> Said<'a>
+    requires { at < length text.now }
+    ensures entry { entries_of (drop at text.now) ≡ entry_by result.word (name_of result.line.now) ∷ entries_of (drop result.next text.now) }
+    ensures next_after { (at < result.next) × (result.next ≤ length text.now + 1) }
+    ensures name_within { at + length (name_of result.line.now) < result.next }
+{
+    let end = line_end(text, at);
+    let line = line_between(text, at, end);
+    let word = word_of(line);
+    Said {
+        word,
+        line,
+        next: end + 1,
     }
 }
 
@@ -466,29 +402,20 @@ fn counted(text: &[u8]) -> PlanRead
     requires { length text.now ≤ most_bytes }
     ensures { result ≡ told (entries_of text.now) }
 {
-    let mut counts = Counts {
-        names: 0,
-        ends: 0,
-        moves: 0,
-        lists: 0,
-    };
+    let mut counts = Counts::NONE;
     let mut number: usize = 1;
     let mut at: usize = 0;
     while at < text.len() {
-        let end = line_end(text, at);
-        let line = line_between(text, at, end);
-        let word = word_of(line);
-        let moves = counts.moves;
-        if word.not_clear(moves) {
-            return PlanRead::NotUnderstood(number);
+        let said = said_at(text, at);
+        if said.word.not_clear(counts.moves) {
+            return Err(PlanUnread::NotUnderstood(number));
         }
-        let name = name_of(line);
-        let next = counts.with_line(word, name.len());
-        counts = next;
+        let name = name_of(said.line);
+        counts = counts.with_line(said.word, name.len());
         number += 1;
-        at = end + 1;
+        at = said.next;
     }
-    PlanRead::Read(counts)
+    Ok(counts)
 }
 
 // Lays bytes over a room from a place on.
@@ -496,12 +423,7 @@ fn put(room: &mut [u8], at: usize, bytes: &[u8])
     requires { at + length bytes.now ≤ length room.old }
     ensures { room.new ≡ laid room.old at bytes.now }
 {
-    let mut i: usize = 0;
-    while i < bytes.len() {
-        let to = at + i;
-        room[to] = bytes[i];
-        i += 1;
-    }
+    room[at..at + bytes.len()].copy_from_slice(bytes);
 }
 
 // Writes the names of the moves and steps, or those of the lists, and where each ends.
@@ -518,12 +440,10 @@ fn put_names(text: &[u8], lists: bool, from: Place, names: &mut [u8], ends: &mut
     let mut k = from.names;
     let mut at: usize = 0;
     while at < text.len() {
-        let end = line_end(text, at);
-        let line = line_between(text, at, end);
-        let word = word_of(line);
-        at = end + 1;
-        if word.has_name(lists) {
-            let name = name_of(line);
+        let said = said_at(text, at);
+        at = said.next;
+        if said.word.has_name(lists) {
+            let name = name_of(said.line);
             put(names, n, name);
             n += name.len();
             ends[k] = n as u32;
@@ -540,14 +460,12 @@ fn steps_below(text: &[u8], from: usize) -> usize
     let mut n: usize = 0;
     let mut at = from;
     while at < text.len() {
-        let end = line_end(text, at);
-        let line = line_between(text, at, end);
-        let word = word_of(line);
-        at = end + 1;
-        if word.is_move() {
+        let said = said_at(text, at);
+        at = said.next;
+        if said.word.is_move() {
             return n;
         }
-        if word.is_step() {
+        if said.word.is_step() {
             n += 1;
         }
     }
@@ -562,11 +480,9 @@ fn put_steps(text: &[u8], steps: &mut [u16])
     let mut m: usize = 0;
     let mut at: usize = 0;
     while at < text.len() {
-        let end = line_end(text, at);
-        let line = line_between(text, at, end);
-        let word = word_of(line);
-        at = end + 1;
-        if word.is_move() {
+        let said = said_at(text, at);
+        at = said.next;
+        if said.word.is_move() {
             let own = steps_below(text, at);
             steps[m] = own as u16;
             m += 1;
@@ -574,14 +490,14 @@ fn put_steps(text: &[u8], steps: &mut [u16])
     }
 }
 
-// The number of the last of so many moves; of none, a number that no move has.
+// The number of the last of so many moves; of none, a number that no move has: `plan_lists` gives 65535 there, and a list of it is refused as one of no such move.
 fn move_above(moves: usize) -> usize
     ensures { result ≡ move_above moves }
 {
-    if moves == 0 {
-        return 65535;
+    match moves {
+        0 => 65535,
+        _ => moves - 1,
     }
-    moves - 1
 }
 
 // Writes for each class list the number of its move.
@@ -593,13 +509,11 @@ fn put_lists(text: &[u8], lists: &mut [u16])
     let mut j: usize = 0;
     let mut at: usize = 0;
     while at < text.len() {
-        let end = line_end(text, at);
-        let line = line_between(text, at, end);
-        let word = word_of(line);
-        at = end + 1;
-        if word.is_move() {
+        let said = said_at(text, at);
+        at = said.next;
+        if said.word.is_move() {
             moves += 1;
-        } else if word.is_list() {
+        } else if said.word.is_list() {
             let own = move_above(moves);
             lists[j] = own as u16;
             j += 1;
@@ -639,15 +553,12 @@ pub fn read(
     ensures lists_after { lists.new ≡ room_after result (plan_lists (entries_of text.now)) lists.old }
 {
     if Plan::BYTES < text.len() {
-        return PlanRead::TooLong;
+        return Err(PlanUnread::TooLong);
     }
-    let answer = counted(text);
-    let PlanRead::Read(counts) = answer else {
-        return answer;
-    };
+    let counts = counted(text)?;
     if !counts.fit(names.len(), ends.len(), steps.len(), lists.len()) {
-        return PlanRead::NoRoom;
+        return Err(PlanUnread::NoRoom);
     }
     fill(text, names, ends, steps, lists);
-    answer
+    Ok(counts)
 }

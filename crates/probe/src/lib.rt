@@ -15,7 +15,8 @@ use sheet::Sheet;
 use terms::{Book, Event, Mark};
 use ties::Operation;
 
-// The event of a code as a book has it, with its fields; an operation is a write.
+// The event of a code as a book has it, with its fields; an operation is a write, and any code past 7 a spawn, so that a caller needs no answer for a code that is none. A code stays a
+// number here, since C hands it in as one; `items::code_of` knows none for those past 8, and would leave that case to be made up here.
 fn event_by(code: u64, a: usize, b: usize, c: usize) -> Event
     ensures { result ≡ event_by code a b c }
 {
@@ -51,8 +52,8 @@ pub extern "C" fn probe_take(
     verdict.number() as u64
 }
 
-// Takes one event and keeps the sum: the verdict's number, and the lent numbers changed if it is accepted. The board has the count of operations and how much is
-// left.
+// Takes one event and keeps the sum: the verdict's number, and the lent numbers changed if it is accepted. The board, two numbers of C's, has the count of operations and how much
+// is left.
 #[unsafe(no_mangle)]
 pub extern "C" fn probe_board(
     sheet: &[u32; Sheet::NUMBERS],

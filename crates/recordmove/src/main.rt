@@ -4,28 +4,28 @@
 // that says why the plan or the book is refused. What was not read, written or understood is said on standard error, and nothing else stands there.
 #![tactic(auto)]
 
-use input::Filled;
 use std::env::Env;
+use std::io;
 use std::io::Read;
 use std::process::ExitCode;
 use std::rt::Files;
-use telling::Told;
+use telling::NotTold;
 
 // Says what went wrong, if something did.
-fn say_end(rt: &impl Eprint, told: Told) -> ExitCode {
+fn say_end(rt: &impl Eprint, told: Result<(), NotTold>) -> ExitCode {
     match told {
-        Told::Whole => {}
-        Told::NotWritten(reason) => {
+        Ok(()) => {}
+        Err(NotTold::NotWritten(reason)) => {
             return input::not_written(
                 rt,
                 "recordmove: what there is to say was not written whole",
                 reason,
             );
         }
-        Told::NotUnderstood(line) => {
+        Err(NotTold::NotUnderstood(line)) => {
             let _ = eprintln!(rt; "recordmove: line {line} of the plan is not understood");
         }
-        Told::TooLong => {
+        Err(NotTold::TooLong) => {
             let _ = eprintln!(rt; "recordmove: the plan is longer than 65536 bytes");
         }
     }
@@ -37,12 +37,14 @@ fn say_end(rt: &impl Eprint, told: Told) -> ExitCode {
 fn tell(rt: &(impl Input + Print + Eprint), plan: &[u8]) -> ExitCode {
     let mut bytes = [0u8; 65537];
     match input::fill(&mut rt.reader(), &mut bytes) {
-        Filled::Whole(n) => say_end(rt, telling::tell(rt, plan, &bytes[..n])),
-        Filled::Failed(reason) => {
-            input::fail(rt, "recordmove: the book was not read", reason);
-            ExitCode::SUCCESS
-        }
+        Ok(n) => say_end(rt, telling::tell(rt, plan, &bytes[..n])),
+        Err(reason) => input::fail(rt, "recordmove: the book was not read", reason),
     }
+}
+
+// The plan was not read, for this reason.
+fn say_not_read(rt: &impl Eprint, reason: io::Error) -> ExitCode {
+    input::fail(rt, "recordmove: the plan was not read", reason)
 }
 
 // Reads the plan, and then the rest. One byte more than a plan may have is enough, too.
@@ -51,11 +53,8 @@ fn tell_from(rt: &(impl Input + Print + Eprint), mut file: impl Read + Drop) -> 
     let filled = input::fill(&mut file, &mut text);
     drop(file);
     match filled {
-        Filled::Whole(n) => tell(rt, &text[..n]),
-        Filled::Failed(reason) => {
-            input::fail(rt, "recordmove: the plan was not read", reason);
-            ExitCode::SUCCESS
-        }
+        Ok(n) => tell(rt, &text[..n]),
+        Err(reason) => say_not_read(rt, reason),
     }
 }
 
@@ -63,16 +62,13 @@ fn tell_from(rt: &(impl Input + Print + Eprint), mut file: impl Read + Drop) -> 
 fn tell_named(rt: &(impl Files + Input + Print + Eprint), name: &[u8]) -> ExitCode {
     match input::open(rt, name) {
         Ok(file) => tell_from(rt, file),
-        Err(reason) => {
-            input::fail(rt, "recordmove: the plan was not read", reason);
-            ExitCode::SUCCESS
-        }
+        Err(reason) => say_not_read(rt, reason),
     }
 }
 
 // The plan's name is the one word on the command line. One that is longer than the system takes names no file.
 fn tell_by_word(rt: &(impl Env + Files + Input + Print + Eprint)) -> ExitCode {
-    if !input::has_word(rt, 1) || input::has_word(rt, 2) {
+    if !input::is_word(rt.arg(1, &mut [])) || input::is_word(rt.arg(2, &mut [])) {
         let _ = eprintln!(rt; "usage: recordmove PLAN < BOOK");
         return ExitCode::SUCCESS;
     }

@@ -21,7 +21,7 @@ use Rattle.ties.specs.Operations.{op_at}
 use Rattle.ties.specs.declared.Ops.{Ops}
 use Rattle.rows.specs.Rows.{mem_at}
 use Rattle.rows.proofs.SweepLaws.{eqb-sym}
-use Rattle.replay.specs.declared.Copied.TheVariants.{Wrote, NoRoom}
+use Rattle.std.specs.Prelude.{None, Some}
 use Rattle.replay.specs.Replay.{kept_by, holds, comes_before, listed, is_left, could_come, next_of, order_after, order_of, copy_answer, copy_room}
 use Rattle.replay.proofs.ListLaws.{listed_more}
 
@@ -175,12 +175,12 @@ pub order-long : (order numbers : List ℕ) (n : ℕ) → take n numbers ≡ ord
 order-long order numbers n e h = sym (length-take-le n numbers h) ∙ ap length e
 
 module _ (order room : List ℕ) where
-  pub copy-small : length room < length order → (NoRoom ≡ copy_answer order room) × (room ≡ copy_room order room)
+  pub copy-small : length room < length order → (None ≡ copy_answer order room) × (room ≡ copy_room order room)
   unfolding copy_answer copy_room
   copy-small h = let t = lt-ltb (length room) (length order) h in (rw t, rw t)
 
-  pub copy_done : (n : ℕ) → n ≡ length order → n ≤ length room → (Wrote n ≡ copy_answer order room) × (order ++ drop n room ≡ copy_room order room)
+  pub copy_done : (n : ℕ) → n ≡ length order → n ≤ length room → (Some n ≡ copy_answer order room) × (order ++ drop n room ≡ copy_room order room)
   unfolding copy_answer copy_room
   copy_done n e h =
       let t = le-ltb (length room) (length order) (omega arith) in
-      (rw t (ap Wrote e), rw t (ap (λ (i : ℕ). order ++ drop i room) e))
+      (rw t (ap Some e), rw t (ap (λ (i : ℕ). order ++ drop i room) e))

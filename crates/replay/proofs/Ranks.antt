@@ -34,7 +34,7 @@ use Rattle.histories.proofs.Lasts.{Lasting}
 use Rattle.histories.proofs.RunLaws.{keeps}
 use Rattle.histories.proofs.Steps.{commit-ending, commit-one-may, step}
 use Rattle.judge.proofs.ClerkLaws.{by-clerk}
-use Rattle.rules.specs.declared.Parent.{Parent}
+use Rattle.rules.specs.States.{Parent}
 use Rattle.replay.specs.Replay.{comes_before}
 use Rattle.replay.proofs.KeptChanges.{Unmoved, committed-ties, made-unmoved, rewritten-by, rewritten-unmoved, unmoved-ties}
 use Rattle.replay.proofs.KeptTies.{comes-stands, tie-of}

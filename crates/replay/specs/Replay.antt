@@ -1,14 +1,12 @@
 -- An order to replay in (document 02, request 7): "an order of all transactions that hold a committed operation, such that every tie between committed operations
 -- of two of them points forward; among those that could come next, the lowest number".
-use Rattle.std.specs.Prelude.{ℕ, zero, suc, Bool, false, cond, not, ◌&&◌, ◌||◌, List, [], ◌∷◌, ◌++◌, eqb, ltb, length, drop}
+use Rattle.std.specs.Prelude.{ℕ, zero, suc, Bool, false, cond, not, ◌&&◌, ◌||◌, List, [], ◌∷◌, ◌++◌, eqb, ltb, length, drop, Option, None, Some}
 use Rattle.laws.specs.Index.{any_below, first_below}
 use Rattle.terms.specs.Limits.{most_transactions}
 use Rattle.ties.specs.Operations.{is_committed, no_operation, op_at, size}
 use Rattle.ties.specs.Ties.{ties_of}
 use Rattle.ties.specs.declared.Operation.{Operation}
 use Rattle.ties.specs.declared.Ops.{Ops}
-use Rattle.replay.specs.declared.Copied.{Copied}
-use Rattle.replay.specs.declared.Copied.TheVariants.{Wrote, NoRoom}
 
 -- ---- who is listed, and who comes before whom
 
@@ -60,8 +58,8 @@ order_of ops = order_after ops most_transactions []
 
 -- ---- into a lent list: the order at its front and the rest as it was; or nothing is touched
 
-unfoldable pub copy_answer : List ℕ → List ℕ → Copied
-copy_answer order room = cond (ltb (length room) (length order)) NoRoom (Wrote (length order))
+unfoldable pub copy_answer : List ℕ → List ℕ → Option ℕ
+copy_answer order room = cond (ltb (length room) (length order)) None (Some (length order))
 
 unfoldable pub copy_room : List ℕ → List ℕ → List ℕ
 copy_room order room = cond (ltb (length room) (length order)) room (order ++ drop (length order) room)

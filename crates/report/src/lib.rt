@@ -1,16 +1,17 @@
 // How a state stands as a whole: who is active, and who stands before whom.
 #![tactic(auto)]
 
-ghost use Rattle.std.specs.Prelude.{◌≡◌};
+ghost use Rattle.std.specs.Prelude.{◌≡◌, false, get_or};
 ghost use Rattle.laws.specs.Index.{tabulate};
 ghost use Rattle.terms.specs.Limits.{most_transactions};
+ghost use Rattle.sets.specs.Sets.{set_of};
 ghost use Rattle.report.specs.Report.{active_set, stands_before, report_of};
 
 use rules::{State, Transaction};
 use terms::Book;
 use ties::Ops;
 
-// How many transactions are active, the lowest of them (64 if there is none), and for every transaction the set of those before
+// How many transactions are active, the lowest of them (64 if there is none, as `report_of` promises), and for every transaction the set of those before
 // which it stands by one tie.
 #[derive(Drop)]
 pub struct Report {
@@ -24,14 +25,23 @@ pub fn active_set(transactions: [Transaction; Book::TRANSACTIONS]) -> u64
     ensures { result ≡ active_set transactions }
 {
     let mut set: u64 = 0;
-    let mut t: usize = 0;
-    while t < Book::TRANSACTIONS {
-        let x = transactions[t];
-        let phase = x.phase;
-        if phase.is_active() {
+    for (t, transaction) in transactions.iter().enumerate() {
+        if transaction.phase.is_active() {
             set = sets::with_member(set, t);
         }
-        t += 1;
+    }
+    set
+}
+
+// The set of those that a row of the table of pairs marks.
+fn set_in(row: &[bool; Book::TRANSACTIONS]) -> u64
+    ensures { result ≡ set_of most_transactions (λ b. get_or row.now b false) }
+{
+    let mut set: u64 = 0;
+    for (b, marked) in row.iter().enumerate() {
+        if *marked {
+            set = sets::with_member(set, b);
+        }
     }
     set
 }
@@ -42,19 +52,8 @@ fn standing(ops: Ops) -> [u64; Book::TRANSACTIONS]
 {
     let table = ops.pairs();
     let mut rows = [0u64; Book::TRANSACTIONS];
-    let mut a: usize = 0;
-    while a < Book::TRANSACTIONS {
-        let row = table[a];
-        let mut set: u64 = 0;
-        let mut b: usize = 0;
-        while b < Book::TRANSACTIONS {
-            if row[b] {
-                set = sets::with_member(set, b);
-            }
-            b += 1;
-        }
-        rows[a] = set;
-        a += 1;
+    for (a, row) in table.iter().enumerate() {
+        rows[a] = set_in(row);
     }
     rows
 }
@@ -63,15 +62,12 @@ fn standing(ops: Ops) -> [u64; Book::TRANSACTIONS]
 pub fn report_of(state: State) -> Report
     ensures { result ≡ report_of state }
 {
-    let transactions = state.transactions;
-    let ops = state.ops;
-    let set = active_set(transactions);
-    let before = standing(ops);
+    let set = active_set(state.transactions);
     let many = sets::how_many(set);
     let low = sets::lowest(set);
     Report {
         active: many,
         lowest: low,
-        before,
+        before: standing(state.ops),
     }
 }

@@ -353,17 +353,17 @@ module _ (n : ℕ) (op : ℕ → Operation) (start from : ℕ) where
   -- ---- the pass as it is computed
 
   abbrev pub GoingBy : ℕ → Pass → Type 0
-  GoingBy i p = Going i p.mine p.put p.used p.written p.reached p.missed
+  GoingBy i p = Going i p.mine.used p.mine.written p.theirs.used p.theirs.written p.reached p.missed
 
   going_step : (i : ℕ) (p : Pass) → i < n → GoingBy i p → GoingBy (i + 1) (passed start (op i) p)
   unfolding passed
   going_step i p l g =
       bool_cases (is_gone (op i))
-      (λ h. rw h (going-dead i p.mine p.put p.used p.written p.reached p.missed g h))
+      (λ h. rw h (going-dead i p.mine.used p.mine.written p.theirs.used p.theirs.written p.reached p.missed g h))
       (λ h.
       bool_cases (hits start (op i) p)
-      (λ t. rw (h, t) (going-in i p.mine p.put p.used p.written p.reached p.missed g l h t))
-      (λ t. rw (h, t) (going-out i p.mine p.put p.used p.written p.reached p.missed g l h t)))
+      (λ t. rw (h, t) (going-in i p.mine.used p.mine.written p.theirs.used p.theirs.written p.reached p.missed g l h t))
+      (λ t. rw (h, t) (going-out i p.mine.used p.mine.written p.theirs.used p.theirs.written p.reached p.missed g l h t)))
 
   going-to : (i : ℕ) → i ≤ n → GoingBy i (pass_to i op start from)
   unfolding pass_to
@@ -375,4 +375,4 @@ module _ (n : ℕ) (op : ℕ → Operation) (start from : ℕ) where
   pub pass-done : Passed (ties_of n op) start from (pass_to n op start from).reached (pass_to n op start from).missed
   pass-done =
       let p = pass_to n op start from in
-      going_end n p.mine p.put p.used p.written p.reached p.missed (going-to n (omega arith)) refl
+      going_end n p.mine.used p.mine.written p.theirs.used p.theirs.written p.reached p.missed (going-to n (omega arith)) refl

@@ -9,6 +9,7 @@ use Rattle.ties.specs.Ties.{is_gone}
 use Rattle.ties.specs.declared.Operation.{Operation}
 use Rattle.cells.specs.Cells.{op_in}
 use Rattle.rings.specs.declared.Pass.{Pass}
+use Rattle.rings.specs.declared.Touched.{Touched}
 
 abbrev pub with_some : Bool → ℕ → ℕ → ℕ
 with_some so set o = cond so (inserted set o) set
@@ -17,46 +18,32 @@ with_some so set o = cond so (inserted set o) set
 abbrev pub crosses : ℕ → ℕ → Mark → ℕ → Bool
 crosses used written mark o = cond (is_write mark) (mem used o) (mem written o)
 
+abbrev pub untouched : Touched
+untouched = record { used = 0; written = 0 }
+
+-- with q's object too
+abbrev pub touched_by : Operation → Touched → Touched
+touched_by q s = record { used = inserted s.used q.object; written = with_some (is_write q.mark) s.written q.object }
+
 abbrev pub first_pass : ℕ → Pass
-first_pass from = record { mine = 0; put = 0; used = 0; written = 0; reached = from; missed = 0 }
+first_pass from = record { mine = untouched; theirs = untouched; reached = from; missed = 0 }
 
 -- the pass with q behind it: one of the start's own; one whose transaction is reached; one whose transaction is not
 abbrev pub begun_by : Operation → Pass → Pass
-begun_by q p = record {
-  mine = inserted p.mine q.object;
-  put = with_some (is_write q.mark) p.put q.object;
-  used = p.used;
-  written = p.written;
-  reached = p.reached;
-  missed = p.missed;
-}
+begun_by q p = record { mine = touched_by q p.mine; theirs = p.theirs; reached = p.reached; missed = p.missed }
 
 abbrev pub joined_by : Operation → Pass → Pass
-joined_by q p = record {
-  mine = p.mine;
-  put = p.put;
-  used = inserted p.used q.object;
-  written = with_some (is_write q.mark) p.written q.object;
-  reached = inserted p.reached q.responsible;
-  missed = p.missed;
-}
+joined_by q p = record { mine = p.mine; theirs = touched_by q p.theirs; reached = inserted p.reached q.responsible; missed = p.missed }
 
 abbrev pub left_by : Operation → Pass → Pass
-left_by q p = record {
-  mine = p.mine;
-  put = p.put;
-  used = p.used;
-  written = p.written;
-  reached = p.reached;
-  missed = inserted p.missed q.responsible;
-}
+left_by q p = record { mine = p.mine; theirs = p.theirs; reached = p.reached; missed = inserted p.missed q.responsible }
 
 -- the operation comes after one of those reached, and after one of the start's
 abbrev pub behind : Operation → Pass → Bool
-behind q p = crosses p.used p.written q.mark q.object
+behind q p = crosses p.theirs.used p.theirs.written q.mark q.object
 
 abbrev pub after_start : Operation → Pass → Bool
-after_start q p = crosses p.mine p.put q.mark q.object
+after_start q p = crosses p.mine.used p.mine.written q.mark q.object
 
 -- its transaction is reached already
 abbrev pub known : Operation → Pass → Bool
@@ -66,14 +53,16 @@ known q p = mem p.reached q.responsible
 abbrev pub hits : ℕ → Operation → Pass → Bool
 hits start q p = behind q p || (known q p || (after_start q p && not (eqb q.responsible start)))
 
+-- the same if so
+abbrev pub touched_if : Bool → Operation → Touched → Touched
+touched_if so q s = record { used = with_some so s.used q.object; written = with_some (so && is_write q.mark) s.written q.object }
+
 unfoldable pub passed : ℕ → Operation → Pass → Pass
 passed start q p =
     cond (is_gone q) p
     (record {
-      mine = with_some (eqb q.responsible start) p.mine q.object;
-      put = with_some (eqb q.responsible start && is_write q.mark) p.put q.object;
-      used = with_some (hits start q p) p.used q.object;
-      written = with_some (hits start q p && is_write q.mark) p.written q.object;
+      mine = touched_if (eqb q.responsible start) q p.mine;
+      theirs = touched_if (hits start q p) q p.theirs;
       reached = with_some (hits start q p) p.reached q.responsible;
       missed = with_some (not (hits start q p)) p.missed q.responsible;
     })

@@ -6,22 +6,29 @@ ghost use Rattle.sets.specs.Sets.{inserted};
 ghost use Rattle.ties.specs.Operations.{most_operations};
 ghost use Rattle.ties.specs.Ties.{ties_of, on_ring};
 ghost use Rattle.cells.specs.Cells.{ops_in};
-ghost use Rattle.rings.specs.Passes.{crosses, first_pass, begun_by, joined_by, left_by, passed, pass_to, read_at, preceded_by, Spread};
+ghost use Rattle.rings.specs.Passes.{crosses, untouched, touched_by, first_pass, begun_by, joined_by, left_by, passed, pass_to, read_at, preceded_by, Spread};
 
-use terms::Mark;
 use ties::Operation;
 
-// One pass over the operations, from the first up: the objects that the start has used and written so far, those that whoever is reached
-// has, who is reached, and who had an operation passed before being reached.
-#[derive(Drop)]
-pub struct Pass {
-    pub mine: u64,
-    pub put: u64,
+// The objects that some have used, and those that they have written.
+#[derive(Clone, Copy)]
+pub struct Touched {
     pub used: u64,
     pub written: u64,
+}
+
+// One pass over the operations, from the first up: the objects that the start has touched so far, those that whoever is reached has,
+// who is reached, and who had an operation passed before being reached.
+#[derive(Drop)]
+pub struct Pass {
+    pub mine: Touched,
+    pub theirs: Touched,
     pub reached: u64,
     pub missed: u64,
 }
+
+// `with_some` and `Touched::crossed` are as `with_writer` and `tied_later` of crate rows, which keep transactions and not objects: one public function for both, which
+// takes what is to hold as a flag, would be no plainer than an `if` of two lines.
 
 // The set with o too, if so.
 fn with_some(so: bool, set: u64, o: usize) -> u64
@@ -33,14 +40,37 @@ fn with_some(so: bool, set: u64, o: usize) -> u64
     set
 }
 
-// Whether an operation of this mark on o comes after one of those that used and wrote these objects.
-fn crossed(mark: Mark, used: u64, written: u64, o: usize) -> bool
-    ensures { result ≡ crosses used written mark o }
-{
-    if mark.is_write() {
-        return sets::member(used, o);
+impl Touched {
+    fn none() -> Touched
+        ensures { result ≡ untouched }
+    {
+        Touched {
+            used: 0,
+            written: 0,
+        }
     }
-    sets::member(written, o)
+
+    // With q's object too.
+    fn with(self, q: Operation) -> Touched
+        ensures { result ≡ touched_by q self }
+    {
+        let o = q.object as usize;
+        Touched {
+            used: sets::with_member(self.used, o),
+            written: with_some(q.mark.is_write(), self.written, o),
+        }
+    }
+
+    // Whether q comes after one of those that touched these objects.
+    fn crossed(self, q: Operation) -> bool
+        ensures { result ≡ crosses self.used self.written q.mark q.object }
+    {
+        let o = q.object as usize;
+        if q.mark.is_write() {
+            return sets::member(self.used, o);
+        }
+        sets::member(self.written, o)
+    }
 }
 
 impl Pass {
@@ -49,10 +79,8 @@ impl Pass {
         ensures { result ≡ first_pass from }
     {
         Pass {
-            mine: 0,
-            put: 0,
-            used: 0,
-            written: 0,
+            mine: Touched::none(),
+            theirs: Touched::none(),
             reached: from,
             missed: 0,
         }
@@ -62,15 +90,9 @@ impl Pass {
     fn begun(self, q: Operation) -> Pass
         ensures { result ≡ begun_by q self }
     {
-        let mark = q.mark;
-        let o = q.object as usize;
         Pass {
-            mine: sets::with_member(self.mine, o),
-            put: with_some(mark.is_write(), self.put, o),
-            used: self.used,
-            written: self.written,
-            reached: self.reached,
-            missed: self.missed,
+            mine: self.mine.with(q),
+            ..self
         }
     }
 
@@ -78,16 +100,11 @@ impl Pass {
     fn joined(self, q: Operation) -> Pass
         ensures { result ≡ joined_by q self }
     {
-        let mark = q.mark;
-        let o = q.object as usize;
         let b = q.responsible as usize;
         Pass {
-            mine: self.mine,
-            put: self.put,
-            used: sets::with_member(self.used, o),
-            written: with_some(mark.is_write(), self.written, o),
+            theirs: self.theirs.with(q),
             reached: sets::with_member(self.reached, b),
-            missed: self.missed,
+            ..self
         }
     }
 
@@ -97,12 +114,8 @@ impl Pass {
     {
         let b = q.responsible as usize;
         Pass {
-            mine: self.mine,
-            put: self.put,
-            used: self.used,
-            written: self.written,
-            reached: self.reached,
             missed: sets::with_member(self.missed, b),
+            ..self
         }
     }
 
@@ -113,11 +126,9 @@ impl Pass {
         if q.is_gone() {
             return self;
         }
-        let mark = q.mark;
-        let o = q.object as usize;
         let b = q.responsible as usize;
         let known = sets::member(self.reached, b);
-        let behind = crossed(mark, self.used, self.written, o);
+        let behind = self.theirs.crossed(q);
         if b == start {
             let own = self.begun(q);
             if behind | known {
@@ -128,7 +139,7 @@ impl Pass {
         if known {
             return self.joined(q);
         }
-        if behind | crossed(mark, self.mine, self.put, o) {
+        if behind | self.mine.crossed(q) {
             return self.joined(q);
         }
         self.left(q)
@@ -141,12 +152,9 @@ fn one_pass(ops: &[u32; Operation::MOST], total: usize, start: usize, from: u64)
     ensures { result ≡ pass_to total (read_at ops.now) start from }
 {
     let mut p = Pass::first(from);
-    let mut i: usize = 0;
-    while i < total {
+    for i in 0..total {
         let q = cells::op_in(ops[i]);
-        let next = p.passed(q, start);
-        p = next;
-        i += 1;
+        p = p.passed(q, start);
     }
     p
 }
@@ -177,23 +185,17 @@ fn preceded(ops: &[u32; Operation::MOST], total: usize, t: usize) -> bool
     requires { total ≤ most_operations }
     ensures { result ≡ preceded_by (ties_of total (read_at ops.now)) t }
 {
-    let mut used: u64 = 0;
-    let mut written: u64 = 0;
-    let mut i: usize = 0;
-    while i < total {
+    let mut others = Touched::none();
+    for i in 0..total {
         let q = cells::op_in(ops[i]);
-        let mark = q.mark;
-        let o = q.object as usize;
         let b = q.responsible as usize;
-        i += 1;
         if !q.is_gone() {
             if b == t {
-                if crossed(mark, used, written, o) {
+                if others.crossed(q) {
                     return true;
                 }
             } else {
-                used = sets::with_member(used, o);
-                written = with_some(mark.is_write(), written, o);
+                others = others.with(q);
             }
         }
     }
@@ -208,6 +210,5 @@ pub fn on_ring(ops: &[u32; Operation::MOST], n: usize, t: usize) -> bool
     if !preceded(ops, all, t) {
         return false;
     }
-    let r = spread(ops, all, t);
-    sets::member(r, t)
+    sets::member(spread(ops, all, t), t)
 }

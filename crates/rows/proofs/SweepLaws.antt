@@ -20,6 +20,7 @@ use Rattle.sets.proofs.SetLaws.{mem-empty, mem-inserted, mem-union}
 use Rattle.ties.specs.declared.Operation.{Operation}
 use Rattle.ties.specs.Ties.{conflict, is_gone, counts, edge, ties_of}
 use Rattle.ties.proofs.TieLaws.{kept_small}
+use Rattle.rows.specs.declared.Sweep.{Sweep}
 use Rattle.rows.specs.Rows.{mem_at, since, uses, used_from, written_from, stands_from, Swept}
 
 -- ---- a search from i on
@@ -146,7 +147,7 @@ holds-set l o x f g h s here there y k =
 -- ---- the sweep
 
 module _ (n : ℕ) (op : ℕ → Operation) where
-  pub swept_none : Swept n op n (replicate 32 0) (replicate 32 0) (replicate 64 0)
+  pub swept_none : Swept n op n (record { users = replicate 32 0; writers = replicate 32 0; rows = replicate 64 0 })
   swept_none = record {
     users_long = length-replicate {A = ℕ} 32 0;
     writers_long = length-replicate {A = ℕ} 32 0;
@@ -157,7 +158,7 @@ module _ (n : ℕ) (op : ℕ → Operation) where
   }
 
   -- one more, p, which is operation i
-  module _ (i : ℕ) (l : i < n) (p : Operation) (at : op i ≡ p) (users writers rows : List ℕ) (s : Swept n op (i + 1) users writers rows) where
+  module _ (i : ℕ) (l : i < n) (p : Operation) (at : op i ≡ p) (met : Sweep) (s : Swept n op (i + 1) met) where
     used_step : (o k : ℕ) → used_from n op i o k ≡ (used_from n op (i + 1) o k || uses o k p)
     used_step o k = since-step n i (λ q. uses o k (op q)) l ∙ ap (λ (q : Operation). used_from n op (i + 1) o k || uses o k q) at
 
@@ -172,7 +173,7 @@ module _ (n : ℕ) (op : ℕ → Operation) where
         ∙ ap (λ (x : Operation). stands_from n op (i + 1) a k || since n (i + 1) (λ q. edge x (op q) a k)) at
 
     -- one that does not count for the order adds nothing
-    pub swept-gone : is_gone p ≡ true → Swept n op i users writers rows
+    pub swept-gone : is_gone p ≡ true → Swept n op i met
     swept-gone h = record {
       users_long = s.users_long;
       writers_long = s.writers_long;
@@ -195,36 +196,36 @@ module _ (n : ℕ) (op : ℕ → Operation) where
       o-small : o < 32
       o-small = (kept_small p live).1
 
-      tied_is : (k : ℕ) → mem (cond (is_write p.mark) (get_or users o 0) (get_or writers o 0)) k
+      tied_is : (k : ℕ) → mem (cond (is_write p.mark) (get_or met.users o 0) (get_or met.writers o 0)) k
           ≡ cond (is_write p.mark) (used_from n op (i + 1) o k) (written_from n op (i + 1) o k)
       tied_is k = by-mark (is_write p.mark)
         where
-          by-mark : (b : Bool) → mem (cond b (get_or users o 0) (get_or writers o 0)) k ≡ cond b (used_from n op (i + 1) o k) (written_from n op (i + 1) o k)
+          by-mark : (b : Bool) → mem (cond b (get_or met.users o 0) (get_or met.writers o 0)) k ≡ cond b (used_from n op (i + 1) o k) (written_from n op (i + 1) o k)
           by-mark true = s.used o k
           by-mark false = s.written o k
 
-      writers-more : (k : ℕ) (b : Bool) → mem (cond b (inserted (get_or writers o 0) a) (get_or writers o 0)) k ≡ (written_from n op (i + 1) o k || (b && eqb k a))
-      writers-more k true = mem-inserted (get_or writers o 0) a k a_small ∙ ap (λ (b : Bool). b || eqb k a) (s.written o k)
+      writers-more : (k : ℕ) (b : Bool) → mem (cond b (inserted (get_or met.writers o 0) a) (get_or met.writers o 0)) k ≡ (written_from n op (i + 1) o k || (b && eqb k a))
+      writers-more k true = mem-inserted (get_or met.writers o 0) a k a_small ∙ ap (λ (b : Bool). b || eqb k a) (s.written o k)
       writers-more k false = s.written o k ∙ sym (or-false (written_from n op (i + 1) o k))
 
       -- any other is added to those of its object, and they, but for itself, to its transaction's row
-      pub swept-live : (tied others u w : ℕ) → tied ≡ cond (is_write p.mark) (get_or users o 0) (get_or writers o 0)
-          → ((k : ℕ) → mem others k ≡ (mem tied k && not (eqb k a))) → u ≡ inserted (get_or users o 0) a
-          → w ≡ cond (is_write p.mark) (inserted (get_or writers o 0) a) (get_or writers o 0)
-          → Swept n op i (set users o u) (set writers o w) (set rows a (bit_or (get_or rows a 0) others))
+      pub swept-live : (tied others u w : ℕ) → tied ≡ cond (is_write p.mark) (get_or met.users o 0) (get_or met.writers o 0)
+          → ((k : ℕ) → mem others k ≡ (mem tied k && not (eqb k a))) → u ≡ inserted (get_or met.users o 0) a
+          → w ≡ cond (is_write p.mark) (inserted (get_or met.writers o 0) a) (get_or met.writers o 0)
+          → Swept n op i (record { users = set met.users o u; writers = set met.writers o w; rows = set met.rows a (bit_or (get_or met.rows a 0) others) })
       swept-live tied others u w t r eu ew = record {
-        users_long = length-set users o u ∙ s.users_long;
-        writers_long = length-set writers o w ∙ s.writers_long;
-        rows_long = length-set rows a (bit_or (get_or rows a 0) others) ∙ s.rows_long;
-        used = holds-set users o u (used_from n op (i + 1)) (used_from n op i) s.used (omega (arith, s.users_long, o-small))
-            (λ k. ap (λ (x : ℕ). mem x k) eu ∙ mem-inserted (get_or users o 0) a k a_small ∙ ap (λ (b : Bool). b || eqb k a) (s.used o k)
+        users_long = length-set met.users o u ∙ s.users_long;
+        writers_long = length-set met.writers o w ∙ s.writers_long;
+        rows_long = length-set met.rows a (bit_or (get_or met.rows a 0) others) ∙ s.rows_long;
+        used = holds-set met.users o u (used_from n op (i + 1)) (used_from n op i) s.used (omega (arith, s.users_long, o-small))
+            (λ k. ap (λ (x : ℕ). mem x k) eu ∙ mem-inserted (get_or met.users o 0) a k a_small ∙ ap (λ (b : Bool). b || eqb k a) (s.used o k)
             ∙ sym (used_step o k ∙ rw (live, eq-eqb o o refl)))
             (λ y k e. sym (used_step y k ∙ rw (live, ne_eqb y o e, or-false (used_from n op (i + 1) y k))));
-        written = holds-set writers o w (written_from n op (i + 1)) (written_from n op i) s.written (omega (arith, s.writers_long, o-small))
+        written = holds-set met.writers o w (written_from n op (i + 1)) (written_from n op i) s.written (omega (arith, s.writers_long, o-small))
             (λ k. ap (λ (x : ℕ). mem x k) ew ∙ writers-more k (is_write p.mark) ∙ sym (written_step o k ∙ rw (live, eq-eqb o o refl)))
             (λ y k e. sym (written_step y k ∙ rw (live, ne_eqb y o e, and-false (is_write p.mark), or-false (written_from n op (i + 1) y k))));
-        stands = holds-set rows a (bit_or (get_or rows a 0) others) (stands_from n op (i + 1)) (stands_from n op i) s.stands (omega (arith, s.rows_long, a_small))
-            (λ k. mem-union (get_or rows a 0) others k
+        stands = holds-set met.rows a (bit_or (get_or met.rows a 0) others) (stands_from n op (i + 1)) (stands_from n op i) s.stands (omega (arith, s.rows_long, a_small))
+            (λ k. mem-union (get_or met.rows a 0) others k
             ∙ ap₂ ◌||◌ (s.stands a k) (r k ∙ ap (λ (b : Bool). b && not (eqb k a)) (ap (λ (x : ℕ). mem x k) t ∙ tied_is k))
             ∙ sym (stands-step a k ∙ rw (ties-live n op (i + 1) p a k live, eq-eqb a a refl)))
             (λ y k e. sym (stands-step y k
@@ -250,5 +251,5 @@ module _ (n : ℕ) (op : ℕ → Operation) where
       since-intro n 0 (λ i. since n (i + 1) (λ j. edge (op i) (op j) a k)) p (omega arith) (omega (arith, w.1, v.1))
       (since-intro n (p + 1) (λ j. edge (op p) (op j) a k) q (omega (arith, v.1)) w.1 v.2))
 
-  pub swept_all : (users writers rows : List ℕ) → Swept n op 0 users writers rows → (a k : ℕ) → mem_at rows a k ≡ ties_of n op a k
-  swept_all users writers rows s a k = s.stands a k ∙ stands-all a k
+  pub swept_all : (met : Sweep) → Swept n op 0 met → (a k : ℕ) → mem_at met.rows a k ≡ ties_of n op a k
+  swept_all met s a k = s.stands a k ∙ stands-all a k

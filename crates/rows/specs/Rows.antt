@@ -8,6 +8,7 @@ use Rattle.ties.specs.Operations.{held_by, most_operations, passed_to}
 use Rattle.ties.specs.Ties.{is_gone, edge}
 use Rattle.ties.specs.declared.Operation.{Operation}
 use Rattle.cells.specs.Cells.{op_in}
+use Rattle.rows.specs.declared.Sweep.{Sweep}
 
 -- the operations that lent numbers stand for, and the same with some handed over and x read at one place
 abbrev pub read_at : List ℕ → ℕ → Operation
@@ -52,22 +53,25 @@ abbrev pub stands_from : ℕ → (ℕ → Operation) → ℕ → ℕ → ℕ →
 stands_from n op i a k = since n i (λ p. since n (p + 1) (λ q. edge (op p) (op q) a k))
 
 -- the sets of the objects and the rows of the transactions hold just that
-pub record Swept (n : ℕ) (op : ℕ → Operation) (i : ℕ) (users writers rows : List ℕ) : Type 0 where
-  pub users_long : length users ≡ most_objects
-  pub writers_long : length writers ≡ most_objects
-  pub rows_long : length rows ≡ most_transactions
-  pub used : (o k : ℕ) → mem_at users o k ≡ used_from n op i o k
-  pub written : (o k : ℕ) → mem_at writers o k ≡ written_from n op i o k
-  pub stands : (a k : ℕ) → mem_at rows a k ≡ stands_from n op i a k
+pub record Swept (n : ℕ) (op : ℕ → Operation) (i : ℕ) (met : Sweep) : Type 0 where
+  pub users_long : length met.users ≡ most_objects
+  pub writers_long : length met.writers ≡ most_objects
+  pub rows_long : length met.rows ≡ most_transactions
+  pub used : (o k : ℕ) → mem_at met.users o k ≡ used_from n op i o k
+  pub written : (o k : ℕ) → mem_at met.writers o k ≡ written_from n op i o k
+  pub stands : (a k : ℕ) → mem_at met.rows a k ≡ stands_from n op i a k
+
+-- whatever the operations are: none of them is met yet
+abbrev pub NothingMet : Sweep → Type 0
+NothingMet met = (n : ℕ) (op : ℕ → Operation) → Swept n op n met
 
 -- whatever the operations are: one more of them is met, which is p, and all of a stretch, which are those read
-abbrev pub SweepsOne : Operation → List ℕ → List ℕ → List ℕ → List ℕ → List ℕ → List ℕ → Type 0
-SweepsOne p users writers rows users' writers' rows' =
-    (n : ℕ) (op : ℕ → Operation) (i : ℕ) → i < n → op i ≡ p → Swept n op (i + 1) users writers rows → Swept n op i users' writers' rows'
+abbrev pub SweepsOne : Operation → Sweep → Sweep → Type 0
+SweepsOne p before after = (n : ℕ) (op : ℕ → Operation) (i : ℕ) → i < n → op i ≡ p → Swept n op (i + 1) before → Swept n op i after
 
-abbrev pub SweepsOver : (ℕ → Operation) → ℕ → ℕ → List ℕ → List ℕ → List ℕ → List ℕ → List ℕ → List ℕ → Type 0
-SweepsOver read from to users writers rows users' writers' rows' =
-    (n : ℕ) (op : ℕ → Operation) → to ≤ n → ((i : ℕ) → from ≤ i → i < to → op i ≡ read i) → Swept n op to users writers rows → Swept n op from users' writers' rows'
+abbrev pub SweepsOver : (ℕ → Operation) → ℕ → ℕ → Sweep → Sweep → Type 0
+SweepsOver read from to before after =
+    (n : ℕ) (op : ℕ → Operation) → to ≤ n → ((i : ℕ) → from ≤ i → i < to → op i ≡ read i) → Swept n op to before → Swept n op from after
 
 -- ---- what a set leads to
 

@@ -8,7 +8,7 @@ ghost use Rattle.sets.specs.Sets.{mem, inserted};
 ghost use Rattle.ties.specs.Operations.{most_operations, given_to};
 ghost use Rattle.ties.specs.Ties.{ties_of, before_made, before_given, before_handed, ring_with};
 ghost use Rattle.cells.specs.Cells.{ops_in};
-ghost use Rattle.rows.specs.Rows.{handed_by, read_at, read_handed, read_with, Lent, mem_at, Led, SweepsOne, SweepsOver};
+ghost use Rattle.rows.specs.Rows.{handed_by, read_at, read_handed, read_with, Lent, mem_at, Led, NothingMet, SweepsOne, SweepsOver};
 
 use terms::{Book, Mark};
 use ties::Operation;
@@ -33,30 +33,47 @@ fn with_writer(mark: Mark, writers: u64, a: usize) -> u64
     writers
 }
 
-// One operation met on the way down: its transaction stands before the others that use its object later, and is one of those itself.
-pub fn sweep_one(
-    p: Operation,
-    users: &mut [u64; Book::OBJECTS],
-    writers: &mut [u64; Book::OBJECTS],
-    rows: &mut [u64; Book::TRANSACTIONS],
-)
-    ensures { SweepsOne p users.old writers.old rows.old users.new writers.new rows.new }
-{
-    if p.is_gone() {
-        return;
+// What a sweep over the operations holds on its way down: for each object who uses it later and who writes it later, and for each transaction its row, the set of those that it
+// stands before. It is lent from step to step, since handing it on by value would copy its 1 KB.
+#[derive(Drop)]
+pub struct Sweep {
+    pub users: [u64; Book::OBJECTS],
+    pub writers: [u64; Book::OBJECTS],
+    pub rows: [u64; Book::TRANSACTIONS],
+}
+
+impl Sweep {
+    // Nothing is met yet: every set is empty.
+    pub fn nothing_met() -> Sweep
+        ensures { NothingMet result }
+    {
+        Sweep {
+            users: [0u64; Book::OBJECTS],
+            writers: [0u64; Book::OBJECTS],
+            rows: [0u64; Book::TRANSACTIONS],
+        }
     }
-    let mark = p.mark;
-    let o = p.object as usize;
-    let a = p.responsible as usize;
-    let used = users[o];
-    let written = writers[o];
-    let tied = tied_later(mark, used, written);
-    let own = sets::with_member(0, a);
-    let others = sets::without(tied, own);
-    let row = rows[a];
-    rows[a] = row | others;
-    users[o] = sets::with_member(used, a);
-    writers[o] = with_writer(mark, written, a);
+
+    // One operation met on the way down: its transaction stands before the others that use its object later, and is one of those itself.
+    pub fn sweep_one(&mut self, p: Operation)
+        ensures { SweepsOne p self.old self.new }
+    {
+        if p.is_gone() {
+            return;
+        }
+        let mark = p.mark;
+        let o = p.object as usize;
+        let a = p.responsible as usize;
+        let used = self.users[o];
+        let written = self.writers[o];
+        let tied = tied_later(mark, used, written);
+        let own = sets::with_member(0, a);
+        let others = sets::without(tied, own);
+        let row = self.rows[a];
+        self.rows[a] = row | others;
+        self.users[o] = sets::with_member(used, a);
+        self.writers[o] = with_writer(mark, written, a);
+    }
 }
 
 // An operation once a giver has handed all that it is at work on to a receiver.
@@ -67,81 +84,6 @@ fn handed_by(giver: usize, receiver: u16, op: Operation) -> Operation
         return op.passed_to(receiver);
     }
     op
-}
-
-// The operations from one number up to another, with those of a giver handed over, met from the last down.
-fn sweep(
-    ops: &[u32; Operation::MOST],
-    giver: usize,
-    receiver: u16,
-    from: usize,
-    to: usize,
-    users: &mut [u64; Book::OBJECTS],
-    writers: &mut [u64; Book::OBJECTS],
-    rows: &mut [u64; Book::TRANSACTIONS],
-)
-    requires { (from ≤ to) × ((i : ℕ) → from ≤ i → i < to → i < most_operations) }
-    ensures { SweepsOver (read_handed ops.now giver receiver) from to users.old writers.old rows.old users.new writers.new rows.new }
-{
-    let mut i = to;
-    while from < i {
-        i -= 1;
-        let held = cells::op_in(ops[i]);
-        let p = handed_by(giver, receiver, held);
-        sweep_one(p, users, writers, rows);
-    }
-}
-
-// For each transaction the set of those that it stands before by one tie, with those of a giver handed over and x read at one place, if it is among so many operations.
-fn rows_with(
-    ops: &[u32; Operation::MOST],
-    giver: usize,
-    receiver: u16,
-    total: usize,
-    at: usize,
-    x: Operation,
-) -> [u64; Book::TRANSACTIONS]
-    requires { Lent total at }
-    ensures { (a k : ℕ) → mem_at result a k ≡ ties_of total (read_with ops.now giver receiver at x) a k }
-{
-    let mut users = [0u64; Book::OBJECTS];
-    let mut writers = [0u64; Book::OBJECTS];
-    let mut rows = [0u64; Book::TRANSACTIONS];
-    if total <= at {
-        sweep(
-            ops,
-            giver,
-            receiver,
-            0,
-            total,
-            &mut users,
-            &mut writers,
-            &mut rows,
-        );
-        return rows;
-    }
-    sweep(
-        ops,
-        giver,
-        receiver,
-        at + 1,
-        total,
-        &mut users,
-        &mut writers,
-        &mut rows,
-    );
-    sweep_one(x, &mut users, &mut writers, &mut rows);
-    sweep(
-        ops,
-        giver,
-        receiver,
-        0,
-        at,
-        &mut users,
-        &mut writers,
-        &mut rows,
-    );
-    rows
 }
 
 // A set of transactions with all that its members lead to: each member's row is taken in once.
@@ -162,33 +104,69 @@ fn led_from(rows: &[u64; Book::TRANSACTIONS], from: u64) -> u64
     }
 }
 
-// Whether one of some and v lead to each other, with those of a giver handed over and x read at one place.
-fn ring_with(
-    ops: &[u32; Operation::MOST],
+// The operations that the caller lends, once a giver has handed all that it is at work on to a receiver.
+#[derive(Clone, Copy)]
+struct Handed<'a> {
+    ops: &'a [u32; Operation::MOST],
     giver: usize,
     receiver: u16,
-    total: usize,
-    at: usize,
-    x: Operation,
-    some: u64,
-    v: usize,
-) -> bool
-    requires { Lent total at }
-    ensures { result ≡ ring_with (ties_of total (read_with ops.now giver receiver at x)) (mem some) v }
-{
-    if Book::TRANSACTIONS <= v {
-        return false;
+}
+
+impl Handed<'_> {
+    // Operation i.
+    fn at(self, i: usize) -> Operation
+        requires { i < most_operations }
+        ensures { result ≡ read_handed self.entry.ops.now self.entry.giver self.entry.receiver i }
+    {
+        let held = cells::op_in(self.ops[i]);
+        handed_by(self.giver, self.receiver, held)
     }
-    let rows = rows_with(ops, giver, receiver, total, at, x);
-    let next = rows[v];
-    let after = led_from(&rows, next);
-    let rest = sets::without(after, some);
-    let both = sets::without(after, rest);
-    if both == 0 {
-        return false;
+
+    // Those from one number up to another, met from the last down.
+    fn sweep(self, from: usize, to: usize, met: &mut Sweep)
+        requires { (from ≤ to) × ((i : ℕ) → from ≤ i → i < to → i < most_operations) }
+        ensures { SweepsOver (read_handed self.entry.ops.now self.entry.giver self.entry.receiver) from to met.old met.new }
+    {
+        for i in (from..to).rev() {
+            let p = self.at(i);
+            met.sweep_one(p);
+        }
     }
-    let back = led_from(&rows, both);
-    sets::member(back, v)
+
+    // All of so many, with x read at one place, if it is among them, met from the last down.
+    fn sweep_with(self, total: usize, at: usize, x: Operation, met: &mut Sweep)
+        requires { Lent total at }
+        ensures { SweepsOver (read_with self.entry.ops.now self.entry.giver self.entry.receiver at x) 0 total met.old met.new }
+    {
+        if total <= at {
+            self.sweep(0, total, met);
+            return;
+        }
+        self.sweep(at + 1, total, met);
+        met.sweep_one(x);
+        self.sweep(0, at, met);
+    }
+
+    // Whether one of some and v lead to each other, with x read at one place.
+    fn ring_with(self, total: usize, at: usize, x: Operation, some: u64, v: usize) -> bool
+        requires { Lent total at }
+        ensures { result ≡ ring_with (ties_of total (read_with self.entry.ops.now self.entry.giver self.entry.receiver at x)) (mem some) v }
+    {
+        if Book::TRANSACTIONS <= v {
+            return false;
+        }
+        let mut met = Sweep::nothing_met();
+        self.sweep_with(total, at, x, &mut met);
+        let next = met.rows[v];
+        let after = led_from(&met.rows, next);
+        let rest = sets::without(after, some);
+        let both = sets::without(after, rest);
+        if both == 0 {
+            return false;
+        }
+        let back = led_from(&met.rows, both);
+        sets::member(back, v)
+    }
 }
 
 // Whether one of some would be on a ring with whoever invokes x, had it been invoked.
@@ -198,7 +176,12 @@ pub fn ring_made(ops: &[u32; Operation::MOST], n: usize, x: Operation, some: u64
     let all = cells::size(n);
     let total = all + 1;
     let v = x.responsible as usize;
-    ring_with(ops, Book::TRANSACTIONS, 0, total, all, x, some, v)
+    let as_they_stand = Handed {
+        ops,
+        giver: Book::TRANSACTIONS,
+        receiver: 0,
+    };
+    as_they_stand.ring_with(total, all, x, some, v)
 }
 
 // Operation q as it would be, had a receiver been given it.
@@ -225,7 +208,12 @@ pub fn ring_given(
     let all = cells::size(n);
     let x = given_at(ops, q, receiver);
     let v = receiver as usize;
-    ring_with(ops, Book::TRANSACTIONS, 0, all, q, x, some, v)
+    let as_they_stand = Handed {
+        ops,
+        giver: Book::TRANSACTIONS,
+        receiver: 0,
+    };
+    as_they_stand.ring_with(all, q, x, some, v)
 }
 
 // Whether one of some would be on a ring with the receiver, had it been handed all that t is at work on.
@@ -241,5 +229,10 @@ pub fn ring_handed(
     let all = cells::size(n);
     let none = Operation::none();
     let v = receiver as usize;
-    ring_with(ops, t, receiver, all, all, none, some, v)
+    let handed = Handed {
+        ops,
+        giver: t,
+        receiver,
+    };
+    handed.ring_with(all, all, none, some, v)
 }

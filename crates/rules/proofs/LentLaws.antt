@@ -14,8 +14,8 @@ use Rattle.rules.specs.Lent.{cell_of, parent_code, parent_fits, phase_code, phas
 use Rattle.rules.specs.States.{entered, idle, in_phase, parent_of, phase_of, spawned}
 use Rattle.rules.specs.declared.Phase.{Phase}
 use Rattle.rules.specs.declared.Phase.TheVariants.{Idle, Active, Committed, Aborted}
-use Rattle.rules.specs.declared.Parent.{Parent}
-use Rattle.rules.specs.declared.Parent.TheVariants.{Nobody, Under}
+use Rattle.rules.specs.States.{Parent}
+use Rattle.std.specs.Prelude.{None, Some}
 use Rattle.rules.specs.declared.Transaction.{Transaction}
 use Rattle.rules.proofs.PhaseLaws.{code-le}
 use Rattle.rules.proofs.StateLaws.{past-free, past-idle}
@@ -37,7 +37,7 @@ low_part : (q r : ℕ) → r < 128 → (q * 128 + r) % 128 ≡ r
 low_part q r h = omega arith
 
 -- the number of a child
-under-is : (m c : ℕ) → m < most_transactions → transaction_in (under_in m c) ≡ record { phase = Active; parent = Under m }
+under-is : (m c : ℕ) → m < most_transactions → transaction_in (under_in m c) ≡ record { phase = Active; parent = Some m }
 under-is m c h =
     let low : under_in m c % 4 ≡ 1 = omega arith in
     let whole : under_in m c / 4 ≡ c / 512 * 128 + (m + 1) = omega arith in
@@ -46,8 +46,8 @@ under-is m c h =
     rw (low, high, ne_eqb (m + 1) 0 (λ e. omega arith), back)
 
 pub code-small : (p : Parent) → parent_fits p ≡ true → parent_code p ≤ most_transactions
-code-small Nobody f = omega arith
-code-small (Under m) f = omega (arith, ltb-true m most_transactions f)
+code-small None f = omega arith
+code-small (Some m) f = omega (arith, ltb-true m most_transactions f)
 
 -- the number made of a transaction stands for it
 cell-is : (p : Phase) (m : Parent) → parent_fits m ≡ true → transaction_in (cell_of (record { phase = p; parent = m })) ≡ record { phase = p; parent = m }
@@ -63,8 +63,8 @@ cell-is p m f = λ i. record { phase = (in-phases (parent_code m) p) i; parent =
     high k h = let whole : (k * 4 + phase_code p) / 4 ≡ k = omega (arith, code-le p) in ap (λ (n : ℕ). n % 128) whole ∙ small-part k h
 
     parents : (m : Parent) → parent_fits m ≡ true → parent_in (parent_code m * 4 + phase_code p) ≡ m
-    parents Nobody f = rw (high 0 (omega arith))
-    parents (Under m) f =
+    parents None f = rw (high 0 (omega arith))
+    parents (Some m) f =
         let back : m + 1 - 1 ≡ m = omega arith in
         rw (high (m + 1) (omega (arith, ltb-true m most_transactions f)), ne_eqb (m + 1) 0 (λ e. omega arith), back)
 
@@ -88,7 +88,7 @@ phase-low l t h = ap (λ (x : Transaction). x.phase) (at_low l t h)
 pub parent-low : (l : List ℕ) (t : ℕ) → t < most_transactions → parent_of (transactions_in l) t ≡ parent_in (get_or l t 0)
 parent-low l t h = ap (λ (x : Transaction). x.parent) (at_low l t h)
 
-pub parent-past : (l : List ℕ) (t : ℕ) → most_transactions ≤ t → parent_of (transactions_in l) t ≡ Nobody
+pub parent-past : (l : List ℕ) (t : ℕ) → most_transactions ≤ t → parent_of (transactions_in l) t ≡ None
 parent-past l t h = past-free (transactions_in l) t (omega (arith, length-in l))
 
 pub phase-past : (l : List ℕ) (t : ℕ) → most_transactions ≤ t → phase_of (transactions_in l) t ≡ Idle
@@ -118,7 +118,7 @@ spawned-in l m t hm ht =
 pub spawned-past : (l : List ℕ) (m t : ℕ) → m < most_transactions → most_transactions ≤ t → transactions_in l ≡ spawned_in m t (transactions_in l)
 unfolding spawned
 spawned-past l m t hm ht =
-    rw (lt-ltb m most_transactions hm) (sym (set_out (transactions_in l) t (record { phase = Active; parent = Under m }) (omega (arith, length-in l))))
+    rw (lt-ltb m most_transactions hm) (sym (set_out (transactions_in l) t (record { phase = Active; parent = Some m }) (omega (arith, length-in l))))
 
 pub spawned-none : (l : List ℕ) (m t : ℕ) → most_transactions ≤ m → transactions_in l ≡ spawned_in m t (transactions_in l)
 spawned-none l m t h = rw (le-ltb m most_transactions h)

@@ -1,12 +1,12 @@
 -- Saga rules, declared dependencies and active undos, in the terms in which the code finds them.
-use Prim.Native.Nat.{ℕ, zero, suc, ◌-◌, ◌≤◌, ◌<◌, min}
+use Prim.Native.Nat.{ℕ, zero, suc, ◌-◌, min}
 use native.Mathlib.Omega.{arith}
 use mathlib.Core.Path.{◌≡◌, refl, sym, ap, ◌∙◌, fun_ext}
-use mathlib.Core.Bool.{Bool, false, ◌&&◌, and-true}
+use mathlib.Core.Bool.{Bool, false, ◌&&◌}
 use mathlib.Core.Logic.{◌≢◌}
 use mathlib.Core.List.{List}
 use lib.Dec.{ltb}
-use borrow.Author.Tests.{lt-ltb, le-leb, lt-leb, eq-eqb, ne_eqb}
+use borrow.Author.Tests.{lt-ltb, eq-eqb, ne_eqb}
 use Rattle.laws.specs.Index.{any_below}
 use Rattle.laws.proofs.Bools.{and-off, clash, off-or}
 use Rattle.laws.proofs.Decisions.{lt-or}
@@ -24,19 +24,10 @@ use Rattle.tables.specs.declared.Dependency.{Dependency}
 use Rattle.tables.specs.declared.Sort.{Sort}
 use Rattle.tables.specs.declared.Tables.{Tables}
 use Rattle.sheet.specs.Sheet.{Holds, declared_on, dependency_on, owned_on}
-use Rattle.rules.specs.Rules.{active_undo, active_undos, undo_on, declared_bars, barred_by, kind_bars, step_begins}
-use Rattle.rules.specs.States.{is_active, is_committed, phase_of}
+use Rattle.rules.specs.Rules.{active_undo, active_undos, undo_on, declared_bars, barred_by, kind_bars}
+use Rattle.rules.specs.States.{is_active, phase_of}
 use Rattle.rules.specs.declared.Phase.{Phase}
 use Rattle.rules.specs.declared.Transaction.{Transaction}
-
--- ---- step i of a saga: s is the phase found for the saga, e for the step before it, and a and b what their tests say
-
-module _ (P : ℕ → Phase) (i : ℕ) {s : Phase} {a : Bool} (saga : s ≡ P 0) (active : a ≡ is_active s) where
-  pub first_step : i ≤ 1 → a ≡ step_begins P i
-  first_step h = rw (le-leb i 1 h, active, saga) (sym (and-true (is_active (P 0))))
-
-  pub later-step : {e : Phase} {b : Bool} → e ≡ P (i - 1) → b ≡ is_committed e → 1 < i → (a && b) ≡ step_begins P i
-  later-step earlier committed h = rw (lt-leb i 1 h, active, saga, committed, earlier)
 
 -- ---- one declared dependency d
 

@@ -13,8 +13,8 @@ use Rattle.terms.specs.Limits.{most_transactions}
 use Rattle.rules.specs.Rules.{inactive}
 use Rattle.rules.specs.States.{empty_state, entered, idle, in_phase, is_active, is_under, parent_of, phase_of, spawned}
 use Rattle.rules.specs.declared.Phase.{Phase}
-use Rattle.rules.specs.declared.Parent.{Parent}
-use Rattle.rules.specs.declared.Parent.TheVariants.{Nobody, Under}
+use Rattle.rules.specs.States.{Parent}
+use Rattle.std.specs.Prelude.{None, Some}
 use Rattle.rules.specs.declared.Phase.TheVariants.{Active, Idle}
 use Rattle.rules.specs.declared.Transaction.{Transaction}
 
@@ -45,24 +45,24 @@ entered-parent ts t u p =
 -- ---- a child
 
 module _ (ts : List Transaction) (m t : ℕ) where
-  pub spawned-same : t < length ts → get_or (spawned m t ts) t idle ≡ record { phase = Active; parent = Under m }
+  pub spawned-same : t < length ts → get_or (spawned m t ts) t idle ≡ record { phase = Active; parent = Some m }
   unfolding spawned
-  spawned-same h = get_or-set_same ts t (record { phase = Active; parent = Under m }) idle h
+  spawned-same h = get_or-set_same ts t (record { phase = Active; parent = Some m }) idle h
 
   pub spawned-other : (u : ℕ) → u ≢ t → get_or (spawned m t ts) u idle ≡ get_or ts u idle
   unfolding spawned
-  spawned-other u h = get_or-set_other ts t u (record { phase = Active; parent = Under m }) idle h
+  spawned-other u h = get_or-set_other ts t u (record { phase = Active; parent = Some m }) idle h
 
   pub length-spawned : length (spawned m t ts) ≡ length ts
   unfolding spawned
-  length-spawned = length-set ts t (record { phase = Active; parent = Under m })
+  length-spawned = length-set ts t (record { phase = Active; parent = Some m })
 
 -- past the end every transaction is idle
 pub past-idle : (ts : List Transaction) (t : ℕ) → length ts ≤ t → phase_of ts t ≡ Idle
 past-idle ts t h = ap (λ (x : Transaction). x.phase) (get_or-eq_default ts idle {n = t} h)
 
 -- and nobody's child
-pub past-free : (ts : List Transaction) (t : ℕ) → length ts ≤ t → parent_of ts t ≡ Nobody
+pub past-free : (ts : List Transaction) (t : ℕ) → length ts ≤ t → parent_of ts t ≡ None
 past-free ts t h = ap (λ (x : Transaction). x.parent) (get_or-eq_default ts idle {n = t} h)
 
 -- an active transaction is one of the 64
@@ -78,13 +78,13 @@ all-idle t =
     (λ h. ap (λ (x : Transaction). x.phase) (get_or-replicate most_transactions t idle idle h))
     (λ h. past-idle (replicate most_transactions idle) t (omega (arith, length-replicate most_transactions idle)))
 
-pub all-free : (t : ℕ) → parent_of empty_state.transactions t ≡ Nobody
+pub all-free : (t : ℕ) → parent_of empty_state.transactions t ≡ None
 all-free t =
     lt-or t most_transactions
     (λ h. ap (λ (x : Transaction). x.parent) (get_or-replicate most_transactions t idle idle h))
     (λ h. past-free (replicate most_transactions idle) t (omega (arith, length-replicate most_transactions idle)))
 
 -- whoever counts as m's child is
-pub under-is : (m : ℕ) (p : Parent) → is_under m p ≡ true → p ≡ Under m
-under-is m Nobody h = absurd (false≢true h)
-under-is m (Under q) h = ap Under (eqb-true q m h)
+pub under-is : (m : ℕ) (p : Parent) → is_under m p ≡ true → p ≡ Some m
+under-is m None h = absurd (false≢true h)
+under-is m (Some q) h = ap Some (eqb-true q m h)

@@ -1,11 +1,10 @@
 -- What a number stands for as a transaction. From the low end: its phase, and whose child it is; the rest is left as it is. Every number stands for one; 0 is idle, and
 -- nobody's child.
-use Rattle.std.specs.Prelude.{ℕ, ◌+◌, ◌-◌, ◌*◌, ◌/◌, ◌%◌, Bool, true, cond, List, map, eqb, ltb, set, take}
+use Rattle.std.specs.Prelude.{ℕ, ◌+◌, ◌-◌, ◌*◌, ◌/◌, ◌%◌, Bool, true, cond, List, map, eqb, ltb, set, take, None, Some}
 use Rattle.terms.specs.Limits.{most_transactions}
 use Rattle.rules.specs.declared.Phase.{Phase}
 use Rattle.rules.specs.declared.Phase.TheVariants.{Idle, Active, Committed, Aborted}
-use Rattle.rules.specs.declared.Parent.{Parent}
-use Rattle.rules.specs.declared.Parent.TheVariants.{Nobody, Under}
+use Rattle.rules.specs.States.{Parent}
 use Rattle.rules.specs.declared.Transaction.{Transaction}
 use Rattle.rules.specs.States.{spawned}
 
@@ -27,7 +26,7 @@ with_phase p c = c / 4 * 4 + phase_code p
 
 -- 0 is nobody, and every other number one more than the parent's
 abbrev pub parent_by : ℕ → Parent
-parent_by k = cond (eqb k 0) Nobody (Under (k - 1))
+parent_by k = cond (eqb k 0) None (Some (k - 1))
 
 abbrev pub parent_in : ℕ → Parent
 parent_in c = parent_by (c / 4 % 128)
@@ -37,13 +36,13 @@ abbrev pub under_in : ℕ → ℕ → ℕ
 under_in m c = c / 512 * 512 + (m + 1) * 4 + 1
 
 abbrev pub parent_code : Parent → ℕ
-parent_code Nobody = 0
-parent_code (Under m) = m + 1
+parent_code None = 0
+parent_code (Some m) = m + 1
 
 -- a number can stand for a child of this parent
 abbrev pub parent_fits : Parent → Bool
-parent_fits Nobody = true
-parent_fits (Under m) = ltb m most_transactions
+parent_fits None = true
+parent_fits (Some m) = ltb m most_transactions
 
 -- the number of a transaction, with nothing else
 abbrev pub cell_of : Transaction → ℕ

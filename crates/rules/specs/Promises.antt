@@ -1,5 +1,5 @@
 -- The saga rules and the kinds of dependency once more, in the phases' own names, both ways: what else they forbade would be forbidden by no sentence of the documents.
-use Rattle.std.specs.Prelude.{ℕ, ◌+◌, ◌-◌, ◌≤◌, ◌<◌, ◌≡◌, Bool, true, false, ◌↔◌, ◌≢◌, ◌⊎◌, List, [], ◌∷◌, map}
+use Rattle.std.specs.Prelude.{ℕ, ◌+◌, ◌-◌, ◌≤◌, ◌<◌, ◌≡◌, Bool, true, false, ◌↔◌, ◌≢◌, ◌⊎◌, List, [], ◌∷◌, map, Some}
 use Rattle.tables.specs.Counts.{dependency_count}
 use Rattle.tables.specs.Dependencies.{dependency_at, kind_of}
 use Rattle.tables.specs.declared.Kind.{Kind}
@@ -8,7 +8,6 @@ use Rattle.tables.specs.declared.Tables.{Tables}
 use Rattle.terms.specs.Limits.{most_transactions}
 use Rattle.rules.specs.Rules.{abort_barred, begin_barred, begin_bars, child_active, commit_barred, commit_bars, declared_bars}
 use Rattle.rules.specs.States.{own, parent_of, phase_of}
-use Rattle.rules.specs.declared.Parent.TheVariants.{Under}
 use Rattle.rules.specs.declared.Phase.{Phase}
 use Rattle.rules.specs.declared.Phase.TheVariants.{Aborted, Active, Committed, Idle}
 use Rattle.rules.specs.declared.Transaction.{Transaction}
@@ -72,7 +71,7 @@ pub record DeclaredBars : Type 0 where
 pub record ActiveChild (ts : List Transaction) (m : ℕ) : Type 0 where
   pub child : ℕ
   pub low : child < most_transactions
-  pub under : parent_of ts child ≡ Under m
+  pub under : parent_of ts child ≡ Some m
   pub active : phase_of ts child ≡ Active
 
 abbrev pub OwnChildren : Type 0

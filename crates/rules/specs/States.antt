@@ -1,13 +1,15 @@
 -- The state (docs/RULES.md, 2 States and who may act): "A transaction is idle, active, committed or aborted."
-use Rattle.std.specs.Prelude.{ℕ, ◌+◌, Bool, true, false, ◌||◌, eqb, List, get_or, set, replicate}
+use Rattle.std.specs.Prelude.{ℕ, ◌+◌, Bool, true, false, ◌||◌, eqb, List, get_or, set, replicate, Option, None, Some}
 use Rattle.terms.specs.Limits.{most_transactions}
 use Rattle.ties.specs.Operations.{no_ops}
 use Rattle.rules.specs.declared.Phase.{Phase}
 use Rattle.rules.specs.declared.Phase.TheVariants.{Idle, Active, Committed, Aborted}
-use Rattle.rules.specs.declared.Parent.{Parent}
-use Rattle.rules.specs.declared.Parent.TheVariants.{Nobody, Under}
 use Rattle.rules.specs.declared.Transaction.{Transaction}
 use Rattle.rules.specs.declared.State.{State}
+
+-- whose child a transaction is, if anyone's: whoever spawned it, for good
+abbrev pub Parent : Type 0
+Parent = Option ℕ
 
 abbrev pub is_idle : Phase → Bool
 is_idle Idle = true
@@ -38,7 +40,7 @@ abbrev pub has_ended : Phase → Bool
 has_ended p = is_committed p || is_aborted p
 
 abbrev pub idle : Transaction
-idle = record { phase = Idle; parent = Nobody }
+idle = record { phase = Idle; parent = None }
 
 -- before the first event
 abbrev pub empty_state : State
@@ -67,14 +69,14 @@ abbrev pub parent_of : List Transaction → ℕ → Parent
 parent_of ts t = (get_or ts t idle).parent
 
 abbrev pub is_child : Parent → Bool
-is_child Nobody = false
-is_child (Under m) = true
+is_child None = false
+is_child (Some m) = true
 
 -- a child of m's own, which its own children are not
 abbrev pub is_under : ℕ → Parent → Bool
-is_under m Nobody = false
-is_under m (Under p) = eqb p m
+is_under m None = false
+is_under m (Some p) = eqb p m
 
 -- "the child becomes active": m spawns t, whose parent it is from then on
 unfoldable pub spawned : ℕ → ℕ → List Transaction → List Transaction
-spawned m t ts = set ts t (record { phase = Active; parent = Under m })
+spawned m t ts = set ts t (record { phase = Active; parent = Some m })

@@ -2,7 +2,7 @@
 // dependencies forbid. A number of any value stands for a transaction, so that no lent room can harm.
 #![tactic(auto)]
 
-ghost use Rattle.std.specs.Prelude.{◌≡◌, ◌≤◌, ◌<◌, length};
+ghost use Rattle.std.specs.Prelude.{◌≡◌, ◌≤◌, ◌<◌, List, length};
 ghost use Rattle.laws.specs.Index.{any_below};
 ghost use Rattle.terms.specs.Limits.{most_transactions};
 ghost use Rattle.tables.specs.declared.Tables.{Tables};
@@ -25,13 +25,10 @@ pub enum Phase {
     Aborted,
 }
 
-// Whose child a transaction is: whoever spawned it, for good.
-#[derive(Clone, Copy)]
-pub enum Parent {
-    Nobody,
-    Under(u16),
-}
+// Whose child a transaction is, if anyone's.
+pub type Parent = Option<u16>;
 
+// A transaction's phase, and its parent: whoever spawned it, for good.
 #[derive(Clone, Copy)]
 pub struct Transaction {
     pub phase: Phase,
@@ -49,77 +46,47 @@ impl Phase {
     pub fn is_idle(self) -> bool
         ensures { result ≡ is_idle self }
     {
-        match self {
-            Phase::Idle => true,
-            Phase::Active => false,
-            Phase::Committed => false,
-            Phase::Aborted => false,
-        }
+        matches!(self, Phase::Idle)
     }
 
     pub fn is_active(self) -> bool
         ensures { result ≡ is_active self }
     {
-        match self {
-            Phase::Idle => false,
-            Phase::Active => true,
-            Phase::Committed => false,
-            Phase::Aborted => false,
-        }
+        matches!(self, Phase::Active)
     }
 
     pub fn is_committed(self) -> bool
         ensures { result ≡ is_committed self }
     {
-        match self {
-            Phase::Idle => false,
-            Phase::Active => false,
-            Phase::Committed => true,
-            Phase::Aborted => false,
-        }
+        matches!(self, Phase::Committed)
     }
 
     pub fn is_aborted(self) -> bool
         ensures { result ≡ is_aborted self }
     {
-        match self {
-            Phase::Idle => false,
-            Phase::Active => false,
-            Phase::Committed => false,
-            Phase::Aborted => true,
-        }
+        matches!(self, Phase::Aborted)
     }
 }
 
-impl Parent {
-    pub fn is_child(self) -> bool
-        ensures { result ≡ is_child self }
-    {
-        match self {
-            Parent::Nobody => false,
-            Parent::Under(_) => true,
-        }
-    }
+// Whether the parent is anybody: that of a transaction which was not spawned is nobody.
+pub fn is_child(parent: Parent) -> bool
+    ensures { result ≡ is_child parent }
+{
+    parent.is_some()
+}
 
-    // Whether a lent number can stand for a child of this parent: every parent of a book is one of the transactions.
-    fn fits(self) -> bool
-        ensures { result ≡ parent_fits self }
-    {
-        match self {
-            Parent::Nobody => true,
-            Parent::Under(m) => (m as usize) < Book::TRANSACTIONS,
-        }
-    }
+// Whether a lent number can stand for a child of this parent: every parent of a book is one of the transactions.
+fn parent_fits(parent: Parent) -> bool
+    ensures { result ≡ parent_fits parent }
+{
+    parent.is_none_or(|m| (m as usize) < Book::TRANSACTIONS)
+}
 
-    // Whether it is m, and not one further up.
-    fn is_under(self, m: usize) -> bool
-        ensures { result ≡ is_under m self }
-    {
-        match self {
-            Parent::Nobody => false,
-            Parent::Under(p) => p as usize == m,
-        }
-    }
+// Whether the parent is m, and not one further up.
+fn is_under(parent: Parent, m: usize) -> bool
+    ensures { result ≡ is_under m parent }
+{
+    parent.is_some_and(|p| p as usize == m)
 }
 
 impl Transaction {
@@ -129,7 +96,7 @@ impl Transaction {
     {
         Transaction {
             phase: Phase::Idle,
-            parent: Parent::Nobody,
+            parent: None,
         }
     }
 }
@@ -146,25 +113,64 @@ impl State {
     }
 }
 
+// How all transactions stand, whatever they stand in.
+pub trait Standing {
+    ghost use Rattle.rules.specs.declared.Transaction.{Transaction};
+
+    ghost transactions: { Self → List Transaction };
+
+    // The phase of t; what is no transaction is idle.
+    fn phase(&self, t: usize) -> Phase
+        ensures { result ≡ phase_of (transactions self.now) t };
+}
+
+// By value.
+impl Standing for [Transaction; Book::TRANSACTIONS] {
+    ghost transactions = { λ all. all };
+
+    fn phase(&self, t: usize) -> Phase {
+        if Book::TRANSACTIONS <= t {
+            return Phase::Idle;
+        }
+        self[t].phase
+    }
+}
+
+// In numbers that the caller lends.
+impl Standing for [u32; Book::TRANSACTIONS] {
+    ghost transactions = { transactions_in };
+
+    fn phase(&self, t: usize) -> Phase {
+        if Book::TRANSACTIONS <= t {
+            return Phase::Idle;
+        }
+        phase_in(self[t])
+    }
+}
+
 // The phase of t; what is no transaction is idle.
 pub fn phase_of(transactions: [Transaction; Book::TRANSACTIONS], t: usize) -> Phase
     ensures { result ≡ phase_of transactions t }
 {
-    if Book::TRANSACTIONS <= t {
-        return Phase::Idle;
-    }
-    let x = transactions[t];
-    x.phase
+    transactions.phase(t)
+}
+
+// The same where the transactions stand in numbers.
+pub fn phase_at(transactions: &[u32; Book::TRANSACTIONS], t: usize) -> Phase
+    ensures { result ≡ phase_of (transactions_in transactions.now) t }
+{
+    transactions.phase(t)
 }
 
 // The phase of one of a saga's own, counted from the saga.
-pub fn own(transactions: [Transaction; Book::TRANSACTIONS], first: u16, k: u32) -> Phase
-    ensures { result ≡ own transactions first k }
+pub fn own<S: Standing>(stand: &S, first: u16, k: u32) -> Phase
+    ensures { result ≡ own (S.transactions stand.now) first k }
 {
     let t = first as usize + k as usize;
-    phase_of(transactions, t)
+    stand.phase(t)
 }
 
+// Phases and parents are codes in the lent numbers, since C lends that memory, and any number has to stand for something.
 fn phase_in(c: u32) -> Phase
     ensures { result ≡ phase_in c }
 {
@@ -191,8 +197,7 @@ fn phase_code(phase: Phase) -> u32
 fn with_phase(c: u32, phase: Phase) -> u32
     ensures { result ≡ with_phase phase c }
 {
-    let code = phase_code(phase);
-    c / 4 * 4 + code
+    c / 4 * 4 + phase_code(phase)
 }
 
 fn parent_in(c: u32) -> Parent
@@ -200,18 +205,17 @@ fn parent_in(c: u32) -> Parent
 {
     let k = c / 4 % 128;
     if k == 0 {
-        return Parent::Nobody;
+        return None;
     }
-    let m = k - 1;
-    Parent::Under(m as u16)
+    Some((k - 1) as u16)
 }
 
 fn parent_code(parent: Parent) -> u32
     ensures { result ≡ parent_code parent }
 {
     match parent {
-        Parent::Nobody => 0,
-        Parent::Under(m) => m as u32 + 1,
+        None => 0,
+        Some(m) => m as u32 + 1,
     }
 }
 
@@ -223,24 +227,6 @@ fn under_in(c: u32, m: u32) -> u32
     let kept = c / 512 * 512;
     let under = (m + 1) * 4;
     kept + under + 1
-}
-
-// The phase of t; what is no transaction is idle.
-pub fn phase_at(transactions: &[u32; Book::TRANSACTIONS], t: usize) -> Phase
-    ensures { result ≡ phase_of (transactions_in transactions.now) t }
-{
-    if Book::TRANSACTIONS <= t {
-        return Phase::Idle;
-    }
-    phase_in(transactions[t])
-}
-
-// The phase of one of a saga's own, counted from the saga.
-pub fn own_at(transactions: &[u32; Book::TRANSACTIONS], first: u16, k: u32) -> Phase
-    ensures { result ≡ own (transactions_in transactions.now) first k }
-{
-    let t = first as usize + k as usize;
-    phase_at(transactions, t)
 }
 
 // t enters a phase.
@@ -257,7 +243,7 @@ pub fn parent_at(transactions: &[u32; Book::TRANSACTIONS], t: usize) -> Parent
     ensures { result ≡ parent_of (transactions_in transactions.now) t }
 {
     if Book::TRANSACTIONS <= t {
-        return Parent::Nobody;
+        return None;
     }
     parent_in(transactions[t])
 }
@@ -266,10 +252,8 @@ pub fn parent_at(transactions: &[u32; Book::TRANSACTIONS], t: usize) -> Parent
 pub fn spawns(transactions: &mut [u32; Book::TRANSACTIONS], m: usize, t: usize)
     ensures { transactions_in transactions.new ≡ spawned_in m t (transactions_in transactions.old) }
 {
-    if m < Book::TRANSACTIONS {
-        if t < Book::TRANSACTIONS {
-            transactions[t] = under_in(transactions[t], m as u32);
-        }
+    if m < Book::TRANSACTIONS && t < Book::TRANSACTIONS {
+        transactions[t] = under_in(transactions[t], m as u32);
     }
 }
 
@@ -277,12 +261,8 @@ pub fn spawns(transactions: &mut [u32; Book::TRANSACTIONS], m: usize, t: usize)
 pub fn put(transactions: &mut [u32; Book::TRANSACTIONS], t: usize, x: Transaction)
     ensures { transactions_in transactions.new ≡ put_in t x (transactions_in transactions.old) }
 {
-    let phase = x.phase;
-    let parent = x.parent;
-    if parent.fits() {
-        if t < Book::TRANSACTIONS {
-            transactions[t] = parent_code(parent) * 4 + phase_code(phase);
-        }
+    if parent_fits(x.parent) && t < Book::TRANSACTIONS {
+        transactions[t] = parent_code(x.parent) * 4 + phase_code(x.phase);
     }
 }
 
@@ -291,12 +271,10 @@ pub fn child_active(transactions: &[u32; Book::TRANSACTIONS], m: usize) -> bool
     ensures { result ≡ child_active (transactions_in transactions.now) m }
 {
     let mut found = false;
-    let mut t: usize = 0;
-    while t < Book::TRANSACTIONS {
-        let parent = parent_in(transactions[t]);
-        let phase = phase_in(transactions[t]);
-        found = found | (parent.is_under(m) & phase.is_active());
-        t += 1;
+    for c in transactions {
+        let parent = parent_in(*c);
+        let phase = phase_in(*c);
+        found |= is_under(parent, m) & phase.is_active();
     }
     found
 }
@@ -309,12 +287,11 @@ pub fn transactions_of(
 {
     let idle = Transaction::idle();
     let mut all = [idle; Book::TRANSACTIONS];
-    let mut t: usize = 0;
-    while t < Book::TRANSACTIONS {
-        let phase = phase_in(transactions[t]);
-        let parent = parent_in(transactions[t]);
-        all[t] = Transaction { phase, parent };
-        t += 1;
+    for (t, c) in transactions.iter().enumerate() {
+        all[t] = Transaction {
+            phase: phase_in(*c),
+            parent: parent_in(*c),
+        };
     }
     all
 }
@@ -323,12 +300,12 @@ pub fn transactions_of(
 fn step_begins(transactions: &[u32; Book::TRANSACTIONS], first: u16, i: u16) -> bool
     ensures { result ≡ step_begins (own (transactions_in transactions.now) first) i }
 {
-    let s = own_at(transactions, first, 0);
+    let s = own(transactions, first, 0);
     if i <= 1 {
         return s.is_active();
     }
     let k = i - 1;
-    let earlier = own_at(transactions, first, k as u32);
+    let earlier = own(transactions, first, k as u32);
     s.is_active() & earlier.is_committed()
 }
 
@@ -340,10 +317,10 @@ fn undo_begins(transactions: &[u32; Book::TRANSACTIONS], first: u16, n: u16, i: 
     let this = i as u32;
     let next = this + 1;
     let back = steps + next;
-    let s = own_at(transactions, first, 0);
-    let t = own_at(transactions, first, this);
-    let u = own_at(transactions, first, next);
-    let c = own_at(transactions, first, back);
+    let s = own(transactions, first, 0);
+    let t = own(transactions, first, this);
+    let u = own(transactions, first, next);
+    let c = own(transactions, first, back);
     s.is_aborted()
         & (t.is_committed()
             & (!u.is_active() & (!u.is_committed() | ((next < steps) & c.is_committed()))))
@@ -353,11 +330,9 @@ pub fn begin_barred(transactions: &[u32; Book::TRANSACTIONS], sort: Sort) -> boo
     ensures { result ≡ begin_barred (transactions_in transactions.now) sort }
 {
     match sort {
-        Sort::Saga(_, _) => false,
         Sort::Step(f, _, i) => !step_begins(transactions, f, i),
         Sort::Undo(f, n, i) => !undo_begins(transactions, f, n, i),
-        Sort::Plain => false,
-        Sort::Unknown => false,
+        Sort::Saga(_, _) | Sort::Plain | Sort::Unknown => false,
     }
 }
 
@@ -366,16 +341,14 @@ pub fn commit_barred(transactions: &[u32; Book::TRANSACTIONS], sort: Sort) -> bo
 {
     match sort {
         Sort::Saga(f, n) => {
-            let last = own_at(transactions, f, n as u32);
+            let last = own(transactions, f, n as u32);
             !last.is_committed()
         }
         Sort::Step(f, _, _) => {
-            let s = own_at(transactions, f, 0);
+            let s = own(transactions, f, 0);
             !s.is_active()
         }
-        Sort::Undo(_, _, _) => false,
-        Sort::Plain => false,
-        Sort::Unknown => false,
+        Sort::Undo(_, _, _) | Sort::Plain | Sort::Unknown => false,
     }
 }
 
@@ -384,13 +357,10 @@ pub fn abort_barred(transactions: &[u32; Book::TRANSACTIONS], sort: Sort) -> boo
 {
     match sort {
         Sort::Saga(f, n) => {
-            let last = own_at(transactions, f, n as u32);
+            let last = own(transactions, f, n as u32);
             last.is_committed()
         }
-        Sort::Step(_, _, _) => false,
-        Sort::Undo(_, _, _) => false,
-        Sort::Plain => false,
-        Sort::Unknown => false,
+        Sort::Step(_, _, _) | Sort::Undo(_, _, _) | Sort::Plain | Sort::Unknown => false,
     }
 }
 
@@ -402,10 +372,7 @@ fn commit_bars(kind: Kind, base: Phase) -> bool
         Kind::Commit => !(base.is_committed() | base.is_aborted()),
         Kind::Abort => !base.is_committed(),
         Kind::WeakAbort => base.is_aborted(),
-        Kind::Begin => false,
-        Kind::Serial => false,
-        Kind::BeginOnCommit => false,
-        Kind::BeginOnAbort => false,
+        Kind::Begin | Kind::Serial | Kind::BeginOnCommit | Kind::BeginOnAbort => false,
     }
 }
 
@@ -414,9 +381,7 @@ fn begin_bars(kind: Kind, base: Phase) -> bool
     ensures { result ≡ begin_bars kind base }
 {
     match kind {
-        Kind::Commit => false,
-        Kind::Abort => false,
-        Kind::WeakAbort => false,
+        Kind::Commit | Kind::Abort | Kind::WeakAbort => false,
         Kind::Begin => base.is_idle(),
         Kind::Serial => !(base.is_committed() | base.is_aborted()),
         Kind::BeginOnCommit => !base.is_committed(),
@@ -433,7 +398,7 @@ fn kind_bars(begins: bool, kind: Kind, base: Phase) -> bool
     commit_bars(kind, base)
 }
 
-// Whether a declared dependency forbids the begin, or the commit, of t.
+// Whether a declared dependency forbids the begin, or the commit, of t. Which of the two is a flag, as in the definition `declared_bars` and the theorem `DeclaredBars`.
 pub fn declared_bars(
     begins: bool,
     sheet: &[u32; Sheet::NUMBERS],
@@ -443,24 +408,22 @@ pub fn declared_bars(
     ensures { (tables : Tables) → Holds tables sheet.now → result ≡ declared_bars begins tables (transactions_in transactions.now) t }
 {
     let n = sheet::count_in(sheet[Sheet::DECLARED], Book::DEPENDENCIES);
-    let mut i: usize = 0;
-    while i < n {
+    for i in 0..n {
         let d = sheet::dependency_in(sheet[Book::TRANSACTIONS + i]);
         let dependent = d.dependent as usize;
         if dependent == t {
             let base = d.base as usize;
-            let kind = d.kind;
             let phase = phase_at(transactions, base);
-            if kind_bars(begins, kind, phase) {
+            if kind_bars(begins, d.kind, phase) {
                 return true;
             }
         }
-        i += 1;
     }
     false
 }
 
-// Whether an undo is active among the first `owned` numbers, which are those that sagas own: a scan that most events end with.
+// Whether an undo is active among the first `owned` numbers, which are those that sagas own. Mostly none is, and then the second scan,
+// which gathers them, is saved.
 fn some_undo_active(
     sheet: &[u32; Sheet::NUMBERS],
     transactions: &[u32; Book::TRANSACTIONS],
@@ -470,12 +433,10 @@ fn some_undo_active(
     ensures { result ≡ any_below owned (undo_on sheet.now (transactions_in transactions.now)) }
 {
     let mut found = false;
-    let mut t: usize = 0;
-    while t < owned {
+    for t in 0..owned {
         let sort = sheet::sort_at(sheet, t);
         let phase = phase_in(transactions[t]);
-        found = found | (sort.is_undo() & phase.is_active());
-        t += 1;
+        found |= sort.is_undo() & phase.is_active();
     }
     found
 }
@@ -489,8 +450,7 @@ pub fn active_undos(sheet: &[u32; Sheet::NUMBERS], transactions: &[u32; Book::TR
         return 0;
     }
     let mut set: u64 = 0;
-    let mut t: usize = 0;
-    while t < owned {
+    for t in 0..owned {
         let phase = phase_in(transactions[t]);
         if phase.is_active() {
             let sort = sheet::sort_at(sheet, t);
@@ -498,7 +458,6 @@ pub fn active_undos(sheet: &[u32; Sheet::NUMBERS], transactions: &[u32; Book::TR
                 set = sets::with_member(set, t);
             }
         }
-        t += 1;
     }
     set
 }

@@ -3,8 +3,7 @@
 // changes in. What it could not read, write or understand it says on standard error, and nothing else stands there.
 #![tactic(auto)]
 
-use input::Filled;
-use listing::{Listing, Put, Text};
+use listing::Listing;
 use onward::Judgement;
 use std::env::{Env, FillError};
 use std::io;
@@ -20,44 +19,32 @@ enum Wish {
     Order,
 }
 
-// What the words on the command line ask for.
-#[derive(Drop)]
-enum Asked {
-    For(Wish),
-    Unknown,
-}
-
-// What a word asks for.
-fn wish_of(word: &[u8]) -> Asked {
+// What a word asks for, if it is one of those that are known.
+fn wish_of(word: &[u8]) -> Option<Wish> {
     if word == b"permit-circles".as_slice() {
-        return Asked::For(Wish::ListingWithCircles);
+        return Some(Wish::ListingWithCircles);
     }
     if word == b"first-refusal".as_slice() {
-        return Asked::For(Wish::ToFirstRefusal);
+        return Some(Wish::ToFirstRefusal);
     }
     if word == b"replay".as_slice() {
-        return Asked::For(Wish::Order);
+        return Some(Wish::Order);
     }
-    Asked::Unknown
+    None
 }
 
-// A word that is longer than those that are known is none of them.
-fn asked_for(rt: &impl Env) -> Asked {
+// What the words on the command line ask for. A word that is longer than those that are known is none of them.
+fn asked_for(rt: &impl Env) -> Option<Wish> {
     let mut word = [0u8; 14];
     let n = match rt.arg(1, &mut word) {
         Ok(n) => n,
-        Err(FillError::NotPresent) => return Asked::For(Wish::Listing),
-        Err(FillError::TooLong) => return Asked::Unknown,
+        Err(FillError::NotPresent) => return Some(Wish::Listing),
+        Err(FillError::TooLong) => return None,
     };
-    if input::has_word(rt, 2) {
-        return Asked::Unknown;
+    if input::is_word(rt.arg(2, &mut [])) {
+        return None;
     }
     wish_of(&word[..n])
-}
-
-// What is said of a room that is too small for what is put there; none is.
-fn no_room() -> io::Error {
-    io::Error::other("there is no room for it")
 }
 
 // Puts the listing of a book that was judged so into a room and writes it.
@@ -69,13 +56,7 @@ fn print_from(
     room: &mut [u8],
 ) -> io::Result<()> {
     let put = listing::put_whole(judgement, book, circles, room);
-    let Put::Wrote(n) = put else {
-        return Err(no_room());
-    };
-    if room.len() < n {
-        return Err(no_room());
-    }
-    rt.write_all(&room[..n])
+    input::write_front(rt, room, put)
 }
 
 // Writes the listing of a book that was judged so, from a room that holds every listing.
@@ -89,26 +70,12 @@ fn print_listing(
     print_from(rt, book, circles, judgement, &mut room)
 }
 
-// Writes a number on a line of its own.
-fn print_number(rt: &impl Print, n: usize) -> io::Result<()> {
-    let text = Text::empty().number(n).end();
-    let mut room = [0u8; Text::MOST];
-    let Put::Wrote(size) = text.put(&mut room) else {
-        return Err(no_room());
-    };
-    rt.write_all(&room[..size])
-}
-
-// Writes the transactions in the order to replay in, and stops at one that is not taken whole.
+// Writes the transactions in the order to replay in, each on a line of its own, and stops at one that is not taken whole.
 fn print_order(rt: &impl Print, judgement: Judgement) -> io::Result<()> {
     let state = judgement.state;
-    let ops = state.ops;
-    let order = replay::order_of(ops);
-    let mut i: usize = 0;
-    while i < order.count {
-        let t = order.numbers[i] as usize;
-        print_number(rt, t)?;
-        i += 1;
+    let order = replay::order_of(state.ops);
+    for t in &order.numbers[..order.count] {
+        println!(rt; "{t}")?;
     }
     Ok(())
 }
@@ -163,18 +130,15 @@ fn tell_of(rt: &(impl Print + Eprint), wish: Wish, bytes: &[u8]) -> ExitCode {
 fn tell(rt: &(impl Input + Print + Eprint), wish: Wish) -> ExitCode {
     let mut bytes = [0u8; 65537];
     match input::fill(&mut rt.reader(), &mut bytes) {
-        Filled::Whole(n) => tell_of(rt, wish, &bytes[..n]),
-        Filled::Failed(reason) => {
-            input::fail(rt, "sagabook: the book was not read", reason);
-            ExitCode::SUCCESS
-        }
+        Ok(n) => tell_of(rt, wish, &bytes[..n]),
+        Err(reason) => input::fail(rt, "sagabook: the book was not read", reason),
     }
 }
 
 fn main(rt: HostRuntime) -> ExitCode {
     match asked_for(&rt) {
-        Asked::For(wish) => tell(&rt, wish),
-        Asked::Unknown => {
+        Some(wish) => tell(&rt, wish),
+        None => {
             let _ = eprintln!(rt;
                 "usage: sagabook [permit-circles | first-refusal | replay] < BOOK"
             );

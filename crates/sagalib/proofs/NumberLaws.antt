@@ -5,27 +5,24 @@ use mathlib.Core.Path.{◌≡◌, refl, sym, ap, ap₂, ◌∙◌}
 use mathlib.Core.Bool.{true, false}
 use mathlib.Core.List.{List, []}
 use lib.ListN.{get_or, length, take, length-take, drop_of_length-le}
+use Rattle.std.specs.Prelude.{Option, Result, Ok, Err}
 use Rattle.laws.proofs.Bools.{bool_cases}
 use Rattle.terms.specs.Refusals.{verdict_number}
-use Rattle.terms.specs.declared.Refusal.{Refusal}
 use Rattle.packing.specs.Fields.{encodes, fields_before}
 use Rattle.replay.specs.Replay.{order_of, copy_answer}
-use Rattle.replay.specs.declared.Copied.{Copied}
-use Rattle.book.specs.Packing.{unpack_outcome, write_outcome, written_room}
+use Rattle.book.specs.Packing.{Outcome, unpack_outcome, write_outcome, written_room}
 use Rattle.book.specs.declared.Reading.{Reading}
-use Rattle.book.specs.declared.Outcome.{Outcome}
-use Rattle.book.specs.declared.Outcome.TheVariants.{Wrote, Refuses}
+use Rattle.book.specs.declared.Refused.{Refused}
 use Rattle.book.proofs.PackingLaws.{wrote-all}
 use Rattle.tables.specs.Reading.{edition_of}
 use Rattle.tables.specs.declared.Circles.{Circles}
 use Rattle.onward.specs.Onward.{fitting, flat, judgement_by, judgement_up_to, listed_in, refused_by}
 use Rattle.onward.specs.declared.Judgement.{Judgement}
 use Rattle.onward.specs.declared.No.{No}
-use Rattle.listing.specs.Lines.{listing_by, listing_of, place_answer}
+use Rattle.listing.specs.Lines.{listed, listing_by, listing_of, place_answer}
 use Rattle.listing.specs.Texts.{put_answer}
-use Rattle.listing.specs.declared.Placed.{Placed}
-use Rattle.listing.specs.declared.Put.{Put}
-use Rattle.listing.proofs.WholeLaws.{all_listed, listed}
+use Rattle.listing.specs.declared.NotPlaced.{NotPlaced}
+use Rattle.listing.proofs.WholeLaws.{all_listed}
 use Rattle.desk.specs.Ways.{circles_in, judged, reads_on}
 use Rattle.desk.specs.Desk.{Desk, DeskStands, counts_by, counts_of}
 use Rattle.desk.specs.Questions.{saga_numbers}
@@ -87,12 +84,12 @@ module _ (way : ℕ) (s : List ℕ) (r : Judgement) (read : r ≡ judged way s) 
   unfolding read_numbers
   read_is number e = rw (e, read)
 
-  pub listing-is : (room : List ℕ) (put : Put) → put ≡ put_answer (listing_in way s) room → (o : Outcome) → o ≡ listing_outcome r.events put
+  pub listing-is : (room : List ℕ) (put : Option ℕ) → put ≡ put_answer (listing_in way s) room → (o : Outcome) → o ≡ listing_outcome r.events put
       → (l : List ℕ) → l ≡ outcome_numbers r.events o → l ≡ listing_numbers way s room
   unfolding listing_numbers
   listing-is room put p o q l e = rw (e, q, p, read)
 
-  pub replay-is : (room : List ℕ) (copied : Copied) → copied ≡ copy_answer (order_of r.state.ops) room → (o : Outcome) → o ≡ order_outcome r.events copied
+  pub replay-is : (room : List ℕ) (copied : Option ℕ) → copied ≡ copy_answer (order_of r.state.ops) room → (o : Outcome) → o ≡ order_outcome r.events copied
       → (l : List ℕ) → l ≡ outcome_numbers r.events o → l ≡ replay_numbers way s room
   unfolding replay_numbers
   replay-is room copied p o q l e = rw (e, q, p, read)
@@ -116,12 +113,12 @@ module _ (j : Judgement) (d : Desk) (st : DeskStands j d) where
   unfolding read_numbers
   opened-is way s e = rw (counts-are, e)
 
-  pub order_is : (room : List ℕ) (copied : Copied) → copied ≡ copy_answer (order_of j.state.ops) room → (o : Outcome) → o ≡ order_outcome (get_or d.counts 1 0) copied
+  pub order_is : (room : List ℕ) (copied : Option ℕ) → copied ≡ copy_answer (order_of j.state.ops) room → (o : Outcome) → o ≡ order_outcome (get_or d.counts 1 0) copied
       → (l : List ℕ) → l ≡ outcome_numbers (get_or d.counts 1 0) o → l ≡ desk_order j room
   unfolding desk_order
   order_is room copied p o q l e = rw (e, q, p, events-are)
 
-  pub line_is : (k : ℕ) (room : List ℕ) (placed : Placed) → placed ≡ place_answer j k room → (o : Outcome) → o ≡ line_outcome (get_or d.counts 1 0) placed
+  pub line_is : (k : ℕ) (room : List ℕ) (placed : Result ℕ NotPlaced) → placed ≡ place_answer j k room → (o : Outcome) → o ≡ line_outcome (get_or d.counts 1 0) placed
       → (l : List ℕ) → l ≡ outcome_numbers (get_or d.counts 1 0) o → l ≡ desk_line j k room
   unfolding desk_line
   line_is k room placed p o q l e = rw (e, q, p, events-are)
@@ -138,12 +135,12 @@ module _ (s : List ℕ) (r : Reading) (read : r ≡ reading s) where
 
 module _ (fs room : List ℕ) (o : Outcome) (told : o ≡ write_outcome fs room) where
   -- a refusal says by itself how many events it came after
-  pub refused-is : (r : Refusal) (before place : ℕ) → o ≡ Refuses r before place → (events : ℕ) (l : List ℕ) → l ≡ outcome_numbers events o
+  pub refused-is : (f : Refused) → o ≡ Err f → (events : ℕ) (l : List ℕ) → l ≡ outcome_numbers events o
       → l ≡ write_numbers fs room
   unfolding write_numbers
-  refused-is r before place q events l e = rw (e, q, sym told ∙ q)
+  refused-is f q events l e = rw (e, q, sym told ∙ q)
 
-  module _ (n : ℕ) (q : o ≡ Wrote n) (after : List ℕ) (left : after ≡ written_room fs room) where
+  module _ (n : ℕ) (q : o ≡ Ok n) (after : List ℕ) (left : after ≡ written_room fs room) where
     -- what was written is the whole book, at the front of the room
     wrote : (n ≡ length (encodes fs)) × (take n after ≡ encodes fs)
     unfolding write_outcome written_room
@@ -156,6 +153,6 @@ module _ (fs room : List ℕ) (o : Outcome) (told : o ≡ write_outcome fs room)
     wrote-inside = omega (arith, wrote.0, sym (length-take n after) ∙ ap length wrote.1)
 
     -- so reading it back tells its events
-    pub wrote-is : (r : Reading) → r ≡ reading (take n after) → (l : List ℕ) → l ≡ outcome_numbers r.events (Wrote n) → l ≡ write_numbers fs room
+    pub wrote-is : (r : Reading) → r ≡ reading (take n after) → (l : List ℕ) → l ≡ outcome_numbers r.events (Ok n) → l ≡ write_numbers fs room
     unfolding write_numbers
     wrote-is r read l e = rw (e, read, wrote.1, sym told ∙ q)

@@ -1,18 +1,15 @@
 -- The numbers in which an answer crosses to a program in C or Rust (docs/RULES.md, 5 Reading, opening, writing, unpacking): "It returns number, events accepted and
 -- place", and "After success the answer is the number of bytes or fields written".
-use Rattle.std.specs.Prelude.{ℕ, cond, List, [], ◌∷◌, get_or}
+use Rattle.std.specs.Prelude.{ℕ, cond, List, [], ◌∷◌, get_or, Option, Result, Ok, Err, ok_or}
 use Rattle.terms.specs.Refusals.{number_of, verdict_number}
 use Rattle.terms.specs.declared.Refusal.TheVariants.{NoRoom}
 use Rattle.packing.specs.Fields.{encodes}
 use Rattle.replay.specs.Replay.{order_of, copy_answer}
-use Rattle.replay.specs.declared.Copied.{Copied}
-use Rattle.replay.specs.declared.Copied.TheVariants.{Wrote as WroteOrder, NoRoom as NoRoomForOrder}
 use Rattle.tables.specs.Reading.{edition_of}
 use Rattle.book.specs.Reading.{reading_of}
-use Rattle.book.specs.Packing.{unpack_outcome, write_outcome}
+use Rattle.book.specs.Packing.{Outcome, unpack_outcome, write_outcome}
 use Rattle.book.specs.declared.Reading.{Reading}
-use Rattle.book.specs.declared.Outcome.{Outcome}
-use Rattle.book.specs.declared.Outcome.TheVariants.{Wrote, Refuses}
+use Rattle.book.specs.declared.Refused.{Refused}
 use Rattle.onward.specs.Onward.{refused_by}
 use Rattle.onward.specs.declared.Judgement.{Judgement}
 use Rattle.onward.specs.declared.No.{No}
@@ -20,10 +17,8 @@ use Rattle.share.specs.declared.Share.{Share}
 use Rattle.totals.specs.declared.Totals.{Totals}
 use Rattle.listing.specs.Lines.{listing_of, place_answer}
 use Rattle.listing.specs.Texts.{put_answer}
-use Rattle.listing.specs.declared.Placed.{Placed}
-use Rattle.listing.specs.declared.Placed.TheVariants.{Wrote as WroteLine, NoRoom as NoRoomForLine, NoLine}
-use Rattle.listing.specs.declared.Put.{Put}
-use Rattle.listing.specs.declared.Put.TheVariants.{Wrote as WroteListing, NoRoom as NoRoomForListing}
+use Rattle.listing.specs.declared.NotPlaced.{NotPlaced}
+use Rattle.listing.specs.declared.NotPlaced.TheVariants.{NoRoom as NoRoomForLine, NoLine}
 use Rattle.mend.specs.declared.Mending.{Mending}
 use Rattle.mend.specs.declared.Mending.TheVariants.{Own, Wrote as WroteMended, Refuses as RefusesMending}
 use Rattle.desk.specs.Ways.{circles_in, judged, reads_on}
@@ -49,8 +44,8 @@ read_numbers way s = four (verdict_number (judged way s).answer) (judged way s).
 
 -- what was written for a book of so many accepted events; a refusal says by itself how many it came after
 abbrev pub outcome_numbers : ℕ → Outcome → List ℕ
-outcome_numbers events (Wrote n) = four 0 events 0 n
-outcome_numbers events (Refuses r before place) = four (number_of r) before place 0
+outcome_numbers events (Ok n) = four 0 events 0 n
+outcome_numbers events (Err f) = four (number_of f.refusal) f.events f.place 0
 
 unfoldable pub unpack_numbers : List ℕ → List ℕ → List ℕ
 unpack_numbers s room = outcome_numbers (reading s).events (unpack_outcome s room)
@@ -58,21 +53,27 @@ unpack_numbers s room = outcome_numbers (reading s).events (unpack_outcome s roo
 unfoldable pub write_numbers : List ℕ → List ℕ → List ℕ
 write_numbers fs room = outcome_numbers (reading (encodes fs)).events (write_outcome fs room)
 
+-- a room is too small, after so many accepted events
+abbrev pub no_room : ℕ → Refused
+no_room events = record { refusal = NoRoom; events = events; place = 0 }
+
+-- what came of putting something into a room
+abbrev pub put_outcome : ℕ → Option ℕ → Outcome
+put_outcome events put = ok_or put (no_room events)
+
 -- the listing
 unfoldable pub listing_in : ℕ → List ℕ → List ℕ
 listing_in way s = listing_of (judged way s) (refused_in way s)
 
-abbrev pub listing_outcome : ℕ → Put → Outcome
-listing_outcome events (WroteListing n) = Wrote n
-listing_outcome events NoRoomForListing = Refuses NoRoom events 0
+abbrev pub listing_outcome : ℕ → Option ℕ → Outcome
+listing_outcome events put = put_outcome events put
 
 unfoldable pub listing_numbers : ℕ → List ℕ → List ℕ → List ℕ
 listing_numbers way s room = outcome_numbers (judged way s).events (listing_outcome (judged way s).events (put_answer (listing_in way s) room))
 
 -- the order to replay in; that of a book whose tables are refused is empty
-abbrev pub order_outcome : ℕ → Copied → Outcome
-order_outcome events (WroteOrder n) = Wrote n
-order_outcome events NoRoomForOrder = Refuses NoRoom events 0
+abbrev pub order_outcome : ℕ → Option ℕ → Outcome
+order_outcome events put = put_outcome events put
 
 abbrev pub order_in : ℕ → List ℕ → List ℕ
 order_in way s = order_of (judged way s).state.ops
@@ -104,10 +105,10 @@ unfoldable pub desk_order : Judgement → List ℕ → List ℕ
 desk_order j room = outcome_numbers j.events (order_outcome j.events (copy_answer (order_of j.state.ops) room))
 
 -- a line of the listing; one that is not there has no bytes
-abbrev pub line_outcome : ℕ → Placed → Outcome
-line_outcome events (WroteLine n) = Wrote n
-line_outcome events NoRoomForLine = Refuses NoRoom events 0
-line_outcome events NoLine = Wrote 0
+abbrev pub line_outcome : ℕ → Result ℕ NotPlaced → Outcome
+line_outcome events (Ok n) = Ok n
+line_outcome events (Err NoRoomForLine) = Err (no_room events)
+line_outcome events (Err NoLine) = Ok 0
 
 unfoldable pub desk_line : Judgement → ℕ → List ℕ → List ℕ
 desk_line j k room = outcome_numbers j.events (line_outcome j.events (place_answer j k room))

@@ -26,13 +26,12 @@ ghost use Rattle.totals.specs.Figures.{add_answer, added_to, answer_number, shar
 ghost use Rattle.desk.specs.Ways.{judged};
 ghost use Rattle.desk.specs.Desk.{DeskStands, asked_by, desk_of, named_by, taken_by};
 ghost use Rattle.desk.specs.Questions.{operation_numbers, phase_number, saga_numbers, tally_of};
-ghost use Rattle.sagalib.specs.Numbers.{desk_line, desk_order, refused_in, read_numbers, outcome_numbers, unpack_numbers, write_numbers, line_outcome, listing_in, listing_outcome, listing_numbers, order_outcome, order_in, replay_numbers, next_numbers, mend_numbers, mended_numbers, totals_in, totals_numbers, share_numbers};
+ghost use Rattle.sagalib.specs.Numbers.{desk_line, desk_order, refused_in, read_numbers, outcome_numbers, unpack_numbers, write_numbers, line_outcome, listing_in, listing_numbers, no_room, order_in, put_outcome, replay_numbers, next_numbers, mend_numbers, mended_numbers, totals_in, totals_numbers, share_numbers};
 
-use book::Outcome;
+use book::{Outcome, Refused};
 use desk::Desk;
-use listing::{Placed, Put};
+use listing::NotPlaced;
 use mend::Mending;
-use replay::Copied;
 use sheet::Sheet;
 use terms::{Book, Refusal};
 use ties::Operation;
@@ -43,42 +42,40 @@ fn outcome_numbers(events: usize, outcome: Outcome) -> [u64; 4]
     ensures { result ≡ outcome_numbers events outcome }
 {
     match outcome {
-        Outcome::Wrote(n) => [0, events as u64, 0, n as u64],
-        Outcome::Refuses(refusal, before, place) => {
-            let number = refusal.number() as u64;
-            [number, before as u64, place as u64, 0]
+        Ok(n) => [0, events as u64, 0, n as u64],
+        Err(refused) => {
+            let number = refused.refusal.number() as u64;
+            [number, refused.events as u64, refused.place as u64, 0]
         }
     }
 }
 
-// What came of putting a listing into a room.
-fn listing_outcome(events: usize, put: Put) -> Outcome
-    ensures { result ≡ listing_outcome events put }
+// A room is too small, after so many accepted events.
+fn no_room(events: usize) -> Refused
+    ensures { result ≡ no_room events }
 {
-    match put {
-        Put::Wrote(n) => Outcome::Wrote(n),
-        Put::NoRoom => Outcome::Refuses(Refusal::NoRoom, events, 0),
+    Refused {
+        refusal: Refusal::NoRoom,
+        events,
+        place: 0,
     }
 }
 
-// What came of putting an order into a list.
-fn order_outcome(events: usize, copied: Copied) -> Outcome
-    ensures { result ≡ order_outcome events copied }
+// What came of putting a listing into a room, or an order into a list.
+fn put_outcome(events: usize, put: Option<usize>) -> Outcome
+    ensures { result ≡ put_outcome events put }
 {
-    match copied {
-        Copied::Wrote(n) => Outcome::Wrote(n),
-        Copied::NoRoom => Outcome::Refuses(Refusal::NoRoom, events, 0),
-    }
+    put.ok_or(no_room(events))
 }
 
 // What came of putting a line of the listing into a room; a line that is not there has no bytes.
-fn line_outcome(events: usize, placed: Placed) -> Outcome
+fn line_outcome(events: usize, placed: Result<usize, NotPlaced>) -> Outcome
     ensures { result ≡ line_outcome events placed }
 {
     match placed {
-        Placed::Wrote(n) => Outcome::Wrote(n),
-        Placed::NoRoom => Outcome::Refuses(Refusal::NoRoom, events, 0),
-        Placed::NoLine => Outcome::Wrote(0),
+        Ok(n) => Ok(n),
+        Err(NotPlaced::NoRoom) => Err(no_room(events)),
+        Err(NotPlaced::NoLine) => Ok(0),
     }
 }
 
@@ -152,7 +149,7 @@ pub extern "C" fn saga_listing(book: &[u8], way: u64, room: &mut [u8], answer: &
     let read = desk::judged(book, way);
     let events = read.events;
     let put = listing::put_whole(read, book, circles, room);
-    let outcome = listing_outcome(events, put);
+    let outcome = put_outcome(events, put);
     let numbers = outcome_numbers(events, outcome);
     *answer = numbers;
 }
@@ -191,7 +188,7 @@ pub extern "C" fn saga_replay(book: &[u8], way: u64, list: &mut [u16], answer: &
     let state = read.state;
     let ops = state.ops;
     let copied = replay::put_order(ops, list);
-    let outcome = order_outcome(events, copied);
+    let outcome = put_outcome(events, copied);
     let numbers = outcome_numbers(events, outcome);
     *answer = numbers;
 }
@@ -231,7 +228,7 @@ pub extern "C" fn saga_write(fields: &[u32], room: &mut [u8], answer: &mut [u64;
     ensures { (answer.new ≡ write_numbers fields.now room.old) × (room.new ≡ written_room fields.now room.old) }
 {
     let outcome = book::write(fields, room);
-    let Outcome::Wrote(n) = outcome else {
+    let Ok(n) = outcome else {
         let refused = outcome_numbers(0, outcome);
         *answer = refused;
         return;
@@ -266,7 +263,7 @@ pub extern "C" fn saga_add(book: &[u8], term: &mut [u64; 6]) -> u64
     let added = totals::add(before, book);
     let answer = added.answer;
     let after = added.totals;
-    let number = answer.number();
+    let number = totals::answer_number(answer);
     *term = [
         after.books,
         after.refused,
@@ -288,7 +285,8 @@ pub extern "C" fn saga_share(term: &[u64; 6], share: &mut [u64; 2])
     *share = [lowest.part, lowest.whole];
 }
 
-// ---- a desk: the sheet, the transactions, the operations and the record of each, the steps of every saga and the counts
+// ---- a desk: the sheet, the transactions, the operations and the record of each, the steps of every saga and the counts. The C interface lends these arrays one by one, each in a
+// parameter of its own.
 
 // Opens a desk on a book that is read in one of the ways: the answer of saga_read, and the desk as that reading ends.
 #[unsafe(no_mangle)]
@@ -431,7 +429,7 @@ pub extern "C" fn saga_lent_replay(
 {
     let events = counts[Desk::ACCEPTED] as usize;
     let copied = desk::replay(ops, counts, list);
-    let outcome = order_outcome(events, copied);
+    let outcome = put_outcome(events, copied);
     let numbers = outcome_numbers(events, outcome);
     *answer = numbers;
 }

@@ -1,21 +1,21 @@
 -- The bytes of a form and of a line one at a time, as the code meets them.
 use mathlib.Core.Path.{◌≡◌, refl, sym, ap, ◌∙◌}
-use mathlib.Core.Bool.{Bool, true, false, ◌&&◌, false≢true}
+use mathlib.Core.Bool.{Bool, true, false, ◌&&◌}
 use mathlib.Core.List.{List, [], ◌∷◌}
-use Prim.Native.Nat.{ℕ, suc, ◌+◌, ◌-◌, ◌*◌, ◌≤◌, ◌<◌}
+use Prim.Native.Nat.{ℕ, ◌+◌, ◌-◌, ◌*◌, ◌≤◌, ◌<◌}
 use native.Mathlib.Numerals.{add-one}
 use native.Mathlib.Omega.{arith}
-use lib.ListN.{length, get_or, drop, drop_of_length-le, length-drop}
-use lib.Seq.{drop-cons, drop-drop}
+use lib.ListN.{length, get_or, take, drop, drop_of_length-le}
+use lib.Seq.{drop-cons}
 use lib.Dec.{ltb, leb, eqb}
-use borrow.Author.Tests.{eq-eqb, ne_eqb, lt-ltb, le-ltb, leb-true, ltb-true}
-use Rattle.laws.proofs.Bools.{bool_cases, on_and}
+use borrow.Author.Tests.{eq-eqb, ne_eqb, lt-ltb, le-ltb, le-leb, lt-leb, leb-true, ltb-true}
+use Rattle.laws.proofs.Bools.{on_and}
 use Rattle.laws.proofs.Decisions.{lt-or}
-use Rattle.plan.specs.Lines.{is_blank, past_blanks}
-use Rattle.plan.proofs.EntryLaws.{past-le}
+use Rattle.plan.specs.Lines.{past_blanks}
+use Rattle.plan.proofs.TextLaws.{drop-whole}
 use Rattle.script.specs.declared.Sign.{Sign}
 use Rattle.script.specs.declared.Sign.TheVariants.{Fixed, Number, Blank, Letter, Nothing}
-use Rattle.script.specs.Forms.{sign_of, takes_by, takes, own_by, is_own, piece_by, piece_of, allows, blank_first, first_is, remark_first, ended, is_figure, largest, figures_from, numeral_of, goes, speaks, other, found_as, found_by}
+use Rattle.script.specs.Forms.{sign_of, takes_by, takes, own_by, is_own, piece_by, piece_of, allows, blank_first, first_is, remark_first, ended, is_figure, figure_first, largest, figures_from, numeral_of, goes, speaks, other, found_as, found_by}
 
 -- ---- what a byte of a form stands for
 
@@ -24,24 +24,63 @@ module _ (b : ℕ) where
   unfolding sign_of
   sign-number h = rw (eq-eqb b 35 h)
 
-  pub sign-blank : (b ≡ 35 → ⊥) → b ≡ 32 → Blank ≡ sign_of b
+  pub sign-blank : b ≡ 32 → Blank ≡ sign_of b
   unfolding sign_of
-  sign-blank n h = rw (ne_eqb b 35 n, eq-eqb b 32 h)
+  sign-blank h = rw (ne_eqb b 35 (λ e. absurd (omega arith)), eq-eqb b 32 h)
 
-  module _ (n : b ≡ 35 → ⊥) (m : b ≡ 32 → ⊥) where
-    pub sign-fixed : (leb 48 b && ltb b 64) ≡ true → Fixed (b - 48) ≡ sign_of b
-    unfolding sign_of
-    sign-fixed h = rw (ne_eqb b 35 n, ne_eqb b 32 m, h)
+  -- behind both of these the others stand
+  past-both : 48 ≤ b → (eqb b 35 ≡ false) × ((eqb b 32 ≡ false) × (leb 48 b ≡ true))
+  past-both h = (ne_eqb b 35 (λ e. absurd (omega arith)), (ne_eqb b 32 (λ e. absurd (omega arith)), le-leb 48 b h))
 
-    pub sign-letter : (leb 48 b && ltb b 64) ≡ false → (leb 97 b && leb b 122) ≡ true → Letter ≡ sign_of b
-    unfolding sign_of
-    sign-letter h k = rw (ne_eqb b 35 n, ne_eqb b 32 m, h, k)
+  pub sign-fixed : 48 ≤ b → b < 64 → Fixed (b - 48) ≡ sign_of b
+  unfolding sign_of
+  sign-fixed h k = let p = past-both h in rw (p.0, p.1.0, p.1.1, lt-ltb b 64 k)
 
-    pub sign-nothing : (leb 48 b && ltb b 64) ≡ false → (leb 97 b && leb b 122) ≡ false → Nothing ≡ sign_of b
-    unfolding sign_of
-    sign-nothing h k = rw (ne_eqb b 35 n, ne_eqb b 32 m, h, k)
+  pub sign-letter : 97 ≤ b → b ≤ 122 → Letter ≡ sign_of b
+  unfolding sign_of
+  sign-letter h k = let p = past-both (omega arith) in rw (p.0, p.1.0, p.1.1, le-ltb b 64 (omega arith), le-leb 97 b h, le-leb b 122 k)
+
+  pub sign-low : (b ≡ 35 → ⊥) → (b ≡ 32 → ⊥) → b < 48 → Nothing ≡ sign_of b
+  unfolding sign_of
+  sign-low n m h = rw (ne_eqb b 35 n, ne_eqb b 32 m, lt-leb 48 b h, lt-leb 97 b (omega arith))
+
+  pub sign-middle : 64 ≤ b → b < 97 → Nothing ≡ sign_of b
+  unfolding sign_of
+  sign-middle h k = let p = past-both (omega arith) in rw (p.0, p.1.0, p.1.1, le-ltb b 64 h, lt-leb 97 b k)
+
+  pub sign-high : 122 < b → Nothing ≡ sign_of b
+  unfolding sign_of
+  sign-high h = let p = past-both (omega arith) in rw (p.0, p.1.0, p.1.1, le-ltb b 64 (omega arith), le-leb 97 b (omega arith), lt-leb b 122 h)
 
 -- ---- the front of what is left
+
+pub remark-none : (s : List ℕ) → length s < 1 → true ≡ remark_first s
+remark-none [] h = refl
+remark-none (b ∷ s) h = absurd (omega arith)
+
+pub remark-some : (s : List ℕ) → 1 ≤ length s → eqb (get_or s 0 0) 35 ≡ remark_first s
+remark-some [] h = absurd (omega arith)
+remark-some (b ∷ s) h = refl
+
+pub first-none : (b : ℕ) (s : List ℕ) → length s < 1 → first_is b s ≡ false
+first-none b [] h = refl
+first-none b (x ∷ s) h = absurd (omega arith)
+
+pub first-same : (b : ℕ) (s : List ℕ) → 1 ≤ length s → get_or s 0 0 ≡ b → first_is b s ≡ true
+first-same b [] h e = absurd (omega arith)
+first-same b (x ∷ s) h e = eq-eqb x b e
+
+pub first-differs : (b : ℕ) (s : List ℕ) → (get_or s 0 0 ≡ b → ⊥) → first_is b s ≡ false
+first-differs b [] n = refl
+first-differs b (x ∷ s) n = ne_eqb x b n
+
+pub figure-none : (s : List ℕ) → figure_first s ≡ false → numeral_of s ≡ other
+unfolding numeral_of
+figure-none s h = rw h
+
+pub figure-some : (s : List ℕ) → figure_first s ≡ true → numeral_of s ≡ figures_from 0 s
+unfolding numeral_of
+figure-some s h = rw h
 
 module _ (s : List ℕ) (i : ℕ) where
   pub drop-none : length s ≤ i → drop i s ≡ []
@@ -49,36 +88,6 @@ module _ (s : List ℕ) (i : ℕ) where
 
   pub drop_more : i < length s → drop i s ≡ get_or s i 0 ∷ drop (i + 1) s
   drop_more h = drop-cons s i 0 h ∙ ap (λ (k : ℕ). get_or s i 0 ∷ drop k s) (sym (add-one i))
-
-  pub blank_none : length s ≤ i → false ≡ blank_first (drop i s)
-  blank_none h = sym (ap blank_first (drop-none h))
-
-  pub blank-some : i < length s → is_blank true (get_or s i 0) ≡ blank_first (drop i s)
-  blank-some h = sym (ap blank_first (drop_more h))
-
-  pub first-none : (b : ℕ) → length s ≤ i → false ≡ first_is b (drop i s)
-  first-none b h = sym (ap (first_is b) (drop-none h))
-
-  pub first_some : (b : ℕ) → i < length s → eqb (get_or s i 0) b ≡ first_is b (drop i s)
-  first_some b h = sym (ap (first_is b) (drop_more h))
-
-  pub remark-none : length s ≤ i → true ≡ remark_first (drop i s)
-  remark-none h = sym (ap remark_first (drop-none h))
-
-  pub remark-some : i < length s → eqb (get_or s i 0) 35 ≡ remark_first (drop i s)
-  remark-some h = sym (ap remark_first (drop_more h))
-
-  pub figure-none : length s ≤ i → numeral_of (drop i s) ≡ other
-  unfolding numeral_of
-  figure-none h = ap numeral_of (drop-none h)
-
-  pub figure-not : i < length s → is_figure (get_or s i 0) ≡ false → numeral_of (drop i s) ≡ other
-  unfolding numeral_of
-  figure-not h e = ap numeral_of (drop_more h) ∙ rw e
-
-  pub figure-some : i < length s → is_figure (get_or s i 0) ≡ true → numeral_of (drop i s) ≡ figures_from 0 (drop i s)
-  unfolding numeral_of
-  figure-some h e = ap numeral_of (drop_more h) ∙ rw e (sym (ap (figures_from 0) (drop_more h)))
 
   pub figures-none : (v : ℕ) → length s ≤ i → figures_from v (drop i s) ≡ speaks v (drop i s)
   unfolding figures_from
@@ -97,26 +106,7 @@ module _ (s : List ℕ) (i : ℕ) where
   unfolding figures_from
   figures-more v h e k = ap (figures_from v) (drop_more h) ∙ rw (e, le-ltb largest (10 * v + (get_or s i 0 - 48)) k)
 
--- ---- blanks
-
-past-suffix : (s : List ℕ) → drop (length s - length (past_blanks true s)) s ≡ past_blanks true s
-unfolding past_blanks
-past-suffix [] = refl
-past-suffix (b ∷ s) =
-    let l = past-le true s in
-    let more : suc (length s) - length (past_blanks true s) ≡ suc (length s - length (past_blanks true s)) = omega arith in
-    let none : suc (length s) - suc (length s) ≡ 0 = omega arith in
-    bool_cases (is_blank true b) (λ e. rw e (ap (λ (k : ℕ). drop k (b ∷ s)) more ∙ past-suffix s)) (λ e. rw e (ap (λ (k : ℕ). drop k (b ∷ s)) none))
-
--- the place behind the blanks, from the length of what is left
-pub past-place : (s rest : List ℕ) (at : ℕ) → at ≤ length s → rest ≡ past_blanks true (drop at s)
-    → drop (length s - length rest) s ≡ past_blanks true (drop at s)
-past-place s rest at h e =
-    let l = past-le true (drop at s) in
-    let q : length s - length rest ≡ at + (length (drop at s) - length (past_blanks true (drop at s))) = omega (arith, ap length e, length-drop at s) in
-    ap (λ (k : ℕ). drop k s) q
-    ∙ sym (drop-drop (length (drop at s) - length (past_blanks true (drop at s))) at s)
-    ∙ past-suffix (drop at s)
+-- ---- the end of a line
 
 pub ended_by : (s t : List ℕ) (b : Bool) → t ≡ past_blanks true s → b ≡ remark_first t → b ≡ ended s
 unfolding ended
@@ -171,9 +161,6 @@ module _ (fs : List ℕ) (n : ℕ) where
       (λ h. lt-ltb n (length fs) h ∙ sym (ap (own_by Number) (drop_more fs n h)))
       (λ h. le-ltb n (length fs) h ∙ sym (ap (own_by Number) (drop-none fs n h)))
 
-pub both48 : (b : ℕ) → (leb 48 b && ltb b 64) ≡ true → 48 ≤ b
-both48 b h = leb-true 48 b (on_and (leb 48 b) (ltb b 64) h).0
-
 pub figure-low : (b : ℕ) → is_figure b ≡ true → (48 ≤ b) × (b < 58)
 figure-low b h = let w = on_and (leb 48 b) (ltb b 58) h in (leb-true 48 b w.0, ltb-true b 58 w.1)
 
@@ -188,10 +175,5 @@ module _ (b : ℕ) (s : List ℕ) where
   pub letter-missing : first_is b s ≡ false → other ≡ found_as Letter b s
   letter-missing h = rw h
 
-pub letter-found : (b : ℕ) (s : List ℕ) (at : ℕ) → first_is b (drop at s) ≡ true → goes (drop (at + 1) s) ≡ found_as Letter b (drop at s)
-letter-found b s at h = rw h (ap goes (sym (drop-drop 1 at s)))
-
--- a byte stands only inside the line
-pub first-inside : (b : ℕ) (s : List ℕ) (at : ℕ) → first_is b (drop at s) ≡ true → at < length s
-first-inside b s at h =
-    lt-or at (length s) (λ l. l) (λ l. absurd (false≢true (first-none s at b l ∙ h)))
+  pub letter-found : first_is b s ≡ true → goes (take (length s - 1) (drop 1 s)) ≡ found_as Letter b s
+  letter-found h = rw h (ap goes (drop-whole s 1))

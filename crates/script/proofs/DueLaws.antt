@@ -1,22 +1,13 @@
 -- What is due, as the code meets it.
-use mathlib.Core.Path.{◌≡◌, refl, sym, ap}
+use mathlib.Core.Path.{◌≡◌, sym, ap}
 use mathlib.Core.Bool.{Bool, true, false}
-use Prim.Native.Nat.{ℕ, zero, suc, ◌-◌}
-use native.Mathlib.Omega.{arith}
+use Prim.Native.Nat.{ℕ}
 use Rattle.script.specs.declared.Due.{Due}
 use Rattle.script.specs.declared.Stage.{Stage}
 use Rattle.script.specs.declared.Stage.TheVariants.{Loose, Sagas}
 use Rattle.number.specs.declared.Edition.{Edition}
 use Rattle.number.specs.Number.{edition_named}
-use Rattle.script.specs.Stages.{stage_due, counted_due, next_due, due_after}
-
-pub counted_none : (d : Due) (n : ℕ) (stage next : Stage) → n ≡ 0 → stage_due d next ≡ counted_due d n stage next
-counted_none d zero stage next h = refl
-counted_none d (suc n) stage next h = absurd (omega arith)
-
-pub counted-some : (d : Due) (n : ℕ) (stage next : Stage) → (n ≡ 0 → ⊥) → record { stage = stage; left = n - 1; edition = d.edition } ≡ counted_due d n stage next
-counted-some d zero stage next h = absurd (h refl)
-counted-some d (suc n) stage next h = let e : suc n - 1 ≡ n = omega arith in λ i. record { stage = stage; left = e i; edition = d.edition }
+use Rattle.script.specs.Stages.{stage_due, next_due, due_after}
 
 pub after-loose : (d : Due) (loose : Bool) (v : ℕ) → loose ≡ true → stage_due d Loose ≡ due_after d loose v
 unfolding due_after

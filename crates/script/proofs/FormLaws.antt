@@ -120,41 +120,41 @@ speaks-takes b v s t e = go (sign_of b) e
 
 -- ---- a turn of reading a line by a form
 
--- before byte i: n fields stand in the room, those from before as they stood, and the line is read up to a place
-abbrev pub Heard : List ℕ → List ℕ → List ℕ → ℕ → ℕ → ℕ → ℕ → ℕ → List ℕ → Type 0
-Heard form line room₀ start from i n at room =
+-- before byte i: n fields stand in the room, those from before as they stood, and this is left of the line
+abbrev pub Heard : List ℕ → List ℕ → List ℕ → ℕ → ℕ → ℕ → List ℕ → List ℕ → Type 0
+Heard form line room₀ from i n rest room =
     (i ≤ length form)
     × (from ≤ n)
     × (n + count_of (drop i form) ≤ length room)
     × (length room ≡ length room₀)
     × (take from room ≡ take from room₀)
-    × (says form (drop start line) (take from room₀) ≡ says (drop i form) (drop at line) (take n room))
+    × (says form line (take from room₀) ≡ says (drop i form) rest (take n room))
 
-module _ (form line room₀ : List ℕ) (start from i n at : ℕ) (room : List ℕ) (h : i < length form) (inv : Heard form line room₀ start from i n at room) where
+module _ (form line room₀ : List ℕ) (from i n : ℕ) (rest room : List ℕ) (h : i < length form) (inv : Heard form line room₀ from i n rest room) where
   count : count_of (drop i form) ≡ takes (get_or form i 0) + count_of (drop (i + 1) form)
   count = count-more form [] i 0 h (takes (get_or form i 0)) refl
 
-  pub heard-goes : (next : ℕ) → goes (drop next line) ≡ found_by (get_or form i 0) (drop at line) → Heard form line room₀ start from (i + 1) n next room
+  pub heard-goes : (next : List ℕ) → goes next ≡ found_by (get_or form i 0) rest → Heard form line room₀ from (i + 1) n next room
   heard-goes next e =
-      (omega arith, inv.1, omega (arith, count, inv.2), inv.3, inv.4, inv.5 ∙ says-goes form (drop at line) (take n room) i h (drop next line) e)
+      (omega arith, inv.1, omega (arith, count, inv.2), inv.3, inv.4, inv.5 ∙ says-goes form rest (take n room) i h next e)
 
-  pub room-left : (v next : ℕ) → speaks v (drop next line) ≡ found_by (get_or form i 0) (drop at line) → n < length room
-  room-left v next e = omega (arith, count, inv.2, speaks-takes (get_or form i 0) v (drop at line) (drop next line) e)
+  pub room-left : (v : ℕ) (next : List ℕ) → speaks v next ≡ found_by (get_or form i 0) rest → n < length room
+  room-left v next e = omega (arith, count, inv.2, speaks-takes (get_or form i 0) v rest next e)
 
-  pub heard-speaks : (v next : ℕ) → speaks v (drop next line) ≡ found_by (get_or form i 0) (drop at line)
-      → Heard form line room₀ start from (i + 1) (n + 1) next (set room n v)
+  pub heard-speaks : (v : ℕ) (next : List ℕ) → speaks v next ≡ found_by (get_or form i 0) rest
+      → Heard form line room₀ from (i + 1) (n + 1) next (set room n v)
   heard-speaks v next e = (
     omega arith,
     omega (arith, inv.1),
-    omega (arith, count, inv.2, length-set room n v, speaks-takes (get_or form i 0) v (drop at line) (drop next line) e),
+    omega (arith, count, inv.2, length-set room n v, speaks-takes (get_or form i 0) v rest next e),
     length-set room n v ∙ inv.3,
     take-set-le from room n v inv.1 ∙ inv.4,
-    inv.5 ∙ says-speaks form (drop at line) (take n room) i h v (drop next line) e
-        ∙ ap (says (drop (i + 1) form) (drop next line)) (sym (take-stored room n v (room-left v next e))),
+    inv.5 ∙ says-speaks form rest (take n room) i h v next e
+        ∙ ap (says (drop (i + 1) form) next) (sym (take-stored room n v (room-left v next e))),
   )
 
-pub heard-as : (form line room₀ : List ℕ) (start from i : ℕ) {n at n' at' : ℕ} {room room' : List ℕ} → room' ≡ room → at' ≡ at → n' ≡ n
-    → Heard form line room₀ start from i n at room → Heard form line room₀ start from i n' at' room'
-heard-as form line room₀ start from i {n} {at} {n'} {at'} {room} {room'} p q r h =
-    subst⁻¹ (λ (x : List ℕ). Heard form line room₀ start from i n' at' x) p
-    (subst⁻¹ (λ (x : ℕ). Heard form line room₀ start from i n' x room) q (subst⁻¹ (λ (x : ℕ). Heard form line room₀ start from i x at room) r h))
+pub heard-as : (form line room₀ : List ℕ) (from i : ℕ) {n n' : ℕ} {rest rest' room room' : List ℕ} → room' ≡ room → rest' ≡ rest → n' ≡ n
+    → Heard form line room₀ from i n rest room → Heard form line room₀ from i n' rest' room'
+heard-as form line room₀ from i {n} {n'} {rest} {rest'} {room} {room'} p q r h =
+    subst⁻¹ (λ (x : List ℕ). Heard form line room₀ from i n' rest' x) p
+    (subst⁻¹ (λ (x : List ℕ). Heard form line room₀ from i n' x room) q (subst⁻¹ (λ (x : ℕ). Heard form line room₀ from i x rest room) r h))

@@ -1,7 +1,7 @@
 -- The rows of the table and the lines of a text one after the other, as the code meets them.
 use mathlib.Core.Path.{◌≡◌, refl, sym, ap, subst⁻¹, ◌∙◌}
 use mathlib.Core.Bool.{Bool, true, false, ◌&&◌}
-use mathlib.Core.List.{List, [], ◌∷◌, ◌++◌}
+use mathlib.Core.List.{List, [], ◌∷◌}
 use Prim.Native.Nat.{ℕ, suc, ◌+◌, ◌-◌, ◌≤◌, ◌<◌}
 use native.Mathlib.Omega.{arith}
 use borrow.Author.Tests.{leb-true}
@@ -14,11 +14,9 @@ use Rattle.plan.specs.Passes.{line_length}
 use Rattle.plan.proofs.EntryLaws.{lines_cons}
 use Rattle.script.specs.Forms
 use Rattle.script.specs.Forms.{table, forms, most_fields, allows, loose_letter, count_of, sign_of, fits, shown, form_for, Saying, fields, another, says}
-use Rattle.script.specs.Scripts.{LineSaying, takes, unclear, one_says, or_next, first_says, line_in}
+use Rattle.script.specs.Scripts.{LineSaying, takes, unclear, one_says, or_next, first_says, line_in, ShownBy}
 use Rattle.script.specs.declared.Line.{Line}
 use Rattle.script.specs.declared.Shown.{Shown}
-use Rattle.listing.specs.Words.{line_feed}
-use Rattle.listing.specs.Texts.{text_of, with_all}
 use Rattle.script.specs.declared.Line.TheVariants.{Takes, Passed}
 use Rattle.script.proofs.ByteLaws.{drop-none}
 
@@ -129,9 +127,5 @@ few-first form more lines q e =
     (leb-true (count_of form) most_fields w.0, w.1)
 
 -- the line of the form that was chosen
-abbrev pub ShownBy : List ℕ → List ℕ → Shown → Type 0
-ShownBy form fs r =
-    (text_of r.text ≡ with_all [] (shown form fs ++ line_feed)) × ((r.fields ≡ count_of form) × (r.loose ≡ allows form loose_letter))
-
 pub shown-as : (form chosen fs : List ℕ) (r : Shown) → chosen ≡ form → ShownBy form fs r → ShownBy chosen fs r
 shown-as form chosen fs r e h = subst⁻¹ (λ (f : List ℕ). ShownBy f fs r) e h

@@ -8,11 +8,11 @@ use borrow.Author.Tests.{leb-true, le-leb, lt-leb}
 use lib.ListN.{length, get_or, take, drop, length-append, length-drop, length-take}
 use lib.Seq.{get_or-drop, drop-drop, length-take-le, take_at}
 use lib.Dec.{leb}
+use Rattle.std.specs.Prelude.{Option, Some, None}
 use Rattle.laws.proofs.Bools.{bool_cases, on_and}
 use Rattle.laws.proofs.Decisions.{lt-or}
 use Rattle.listing.specs.Words.{line_feed}
 use Rattle.listing.specs.Texts.{text_of, with_all, put_answer, put_room}
-use Rattle.listing.specs.declared.Put.TheVariants.{Wrote, NoRoom}
 use Rattle.listing.specs.declared.Text.{Text}
 use Rattle.listing.proofs.TextLaws.{all-fits, put_small, put-done}
 use Rattle.listing.proofs.DigitLaws.{decimal-few}
@@ -22,8 +22,8 @@ use Rattle.script.specs.declared.Due.{Due}
 use Rattle.script.specs.declared.Shown.{Shown}
 use Rattle.script.specs.Forms.{table, forms, most_fields, sign_of, largest, allows, loose_letter, takes, count_of, fits, piece_by, piece_of, shown, form_for}
 use Rattle.script.specs.Stages.{letter_of, first_due, due_after}
-use Rattle.script.specs.Scripts.{form_due, text_from, book_text, text, too_small, printed_if_room}
-use Rattle.script.proofs.RowLaws.{every, few, all-few, ShownBy}
+use Rattle.script.specs.Scripts.{form_due, text_from, ShownBy, book_text, text, too_small, printed_if_room}
+use Rattle.script.proofs.RowLaws.{every, few, all-few}
 use Rattle.script.proofs.ByteLaws.{drop-none}
 use Rattle.script.proofs.FormLaws.{first-left}
 use borrow.Rule.Slice.PartMut.{put_mid, post_of}
@@ -135,19 +135,19 @@ line-shown letter due part s r e q small h =
 
 -- ---- into the room
 
-put-wrote : (t part exit : List ℕ) (more : ℕ) → Wrote more ≡ put_answer t part → exit ≡ put_room t part → (more ≡ length t) × (length t ≤ length part) × (exit ≡ t ++ drop more part)
+put-wrote : (t part exit : List ℕ) (more : ℕ) → Some more ≡ put_answer t part → exit ≡ put_room t part → (more ≡ length t) × (length t ≤ length part) × (exit ≡ t ++ drop more part)
 put-wrote t part exit more e q =
     lt-or (length part) (length t)
-    (λ h. let z : Wrote more ≡ NoRoom = e ∙ sym (put_small t part h).0 in let f : ◌≡◌ {A = ℕ} 0 1 = cc in absurd (omega arith))
+    (λ h. let z : ◌≡◌ {A = Option ℕ} (Some more) None = e ∙ sym (put_small t part h).0 in let f : ◌≡◌ {A = ℕ} 0 1 = cc in absurd (omega arith))
     (λ h.
-    let z : Wrote more ≡ Wrote (length t) = e ∙ sym (put-done t part (length t) refl h).0 in
+    let z : ◌≡◌ {A = Option ℕ} (Some more) (Some (length t)) = e ∙ sym (put-done t part (length t) refl h).0 in
     let same : more ≡ length t = cc in
     (same, h, q ∙ sym (put-done t part (length t) refl h).1 ∙ ap (λ (m : ℕ). t ++ drop m part) (sym same)))
 
-put-none : (t part : List ℕ) → NoRoom ≡ put_answer t part → length part < length t
+put-none : (t part : List ℕ) → None ≡ put_answer t part → length part < length t
 put-none t part e =
     lt-or (length part) (length t) (λ h. h)
-    (λ h. let z : NoRoom ≡ Wrote (length t) = e ∙ sym (put-done t part (length t) refl h).0 in let f : ◌≡◌ {A = ℕ} 0 1 = cc in absurd (omega arith))
+    (λ h. let z : ◌≡◌ {A = Option ℕ} None (Some (length t)) = e ∙ sym (put-done t part (length t) refl h).0 in let f : ◌≡◌ {A = ℕ} 0 1 = cc in absurd (omega arith))
 
 -- before a line: n bytes of the text stand in the room, and the fields are shown up to a place
 abbrev pub Laid : List ℕ → ℕ → List ℕ → Due → ℕ → ℕ → Type 0
@@ -178,14 +178,14 @@ module _ (fs : List ℕ) (size : ℕ) (room : List ℕ) (due : Due) (n at : ℕ)
         ∙ ap (take n room ++◌) (text-cons (inv.0 - 1) due (drop at fs) (omega (arith, length-drop at fs)))
         ∙ rw (line, first-left fs at, drop-drop (count_of (form_due due (drop at fs))) at fs)
 
-    pub laid_none : NoRoom ≡ put_answer t (take (length room - n) (drop n room)) → too_small ≡ printed_if_room (book_text fs) size
+    pub laid_none : None ≡ put_answer t (take (length room - n) (drop n room)) → too_small ≡ printed_if_room (book_text fs) size
     unfolding printed_if_room
     laid_none e =
         let l = put-none t (take (length room - n) (drop n room)) e in
         let long : size < length (book_text fs) = omega (arith, ap length whole, length-append (take n room) (t ++ later), length-append t later, length-take-le n room inv.2, l, length-take (length room - n) (drop n room), length-drop n room, inv.2, inv.3) in
         rw (lt-leb (length (book_text fs)) size long)
 
-    module _ (exit : List ℕ) (more : ℕ) (e : Wrote more ≡ put_answer t (take (length room - n) (drop n room))) (q : exit ≡ put_room t (take (length room - n) (drop n room)))
+    module _ (exit : List ℕ) (more : ℕ) (e : Some more ≡ put_answer t (take (length room - n) (drop n room))) (q : exit ≡ put_room t (take (length room - n) (drop n room)))
         (kept : length (put_mid n (length room - n) room exit) ≡ length room) where
       wrote : (more ≡ length t) × (length t ≤ length (take (length room - n) (drop n room))) × (exit ≡ t ++ drop more (take (length room - n) (drop n room)))
       wrote = put-wrote t (take (length room - n) (drop n room)) exit more e q

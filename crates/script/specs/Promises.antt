@@ -1,10 +1,9 @@
 -- What is promised of the text of a book.
-use Rattle.std.specs.Prelude.{ℕ, ◌≤◌, ◌≡◌, List, ◌++◌, ◌∷◌, length, take}
+use Rattle.std.specs.Prelude.{ℕ, ◌≤◌, ◌≡◌, List, ◌++◌, ◌∷◌, length, take, Ok}
 use Rattle.terms.specs.Limits.{most_bytes}
 use Rattle.terms.specs.declared.Verdict.TheVariants.{Accepted}
 use Rattle.number.specs.Promises.{Bytes}
 use Rattle.packing.specs.Promises.{Under}
-use Rattle.book.specs.declared.Outcome.TheVariants.{Wrote}
 use Rattle.book.specs.Reading.{reading_of}
 use Rattle.book.specs.Packing.{book_fields, write_outcome, written_room}
 use Rattle.script.specs.declared.Due.{Due}
@@ -16,7 +15,7 @@ use Rattle.script.specs.Scripts.{form_due, book_text, takes, line_says, tells, t
 pub record ShownBack (s : List ℕ) : Type 0 where
   pub says : telling most_bytes (book_text (book_fields s)) ≡ tells (book_fields s)
   pub written : (room : List ℕ) → length s ≤ length room
-      → (write_outcome (book_fields s) room ≡ Wrote (length s)) × (take (length s) (written_room (book_fields s) room) ≡ s)
+      → (write_outcome (book_fields s) room ≡ Ok (length s)) × (take (length s) (written_room (book_fields s) room) ≡ s)
 
 pub record TextBack : Type 0 where
   -- a line that is shown says, behind any fields, exactly those that it was shown from, whatever is due

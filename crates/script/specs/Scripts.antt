@@ -1,18 +1,16 @@
 -- The text of fields, and the fields that a text says.
-use Rattle.std.specs.Prelude.{ℕ, zero, suc, ◌+◌, Bool, true, cond, List, [], ◌∷◌, ◌++◌, length, get_or, take, drop, ltb, leb}
+use Rattle.std.specs.Prelude.{ℕ, ◌≡◌, zero, suc, ◌+◌, Bool, true, cond, List, [], ◌∷◌, ◌++◌, length, get_or, take, drop, ltb, leb, Option, Some, None, Result, Ok, Err}
 use Rattle.plan.specs.Lines.{lines_of, past_blanks}
+use Rattle.listing.specs.Texts.{text_of, with_all}
 use Rattle.listing.specs.Words.{line_feed}
 use Rattle.script.specs.declared.Due.{Due}
 use Rattle.script.specs.declared.Found.{Found}
 use Rattle.script.specs.declared.Found.TheVariants.{Goes, Speaks, Other}
-use Rattle.script.specs.declared.Said.{Said}
-use Rattle.script.specs.declared.Said.TheVariants.{Fields, Another}
 use Rattle.script.specs.declared.Line.{Line}
 use Rattle.script.specs.declared.Line.TheVariants.{Takes, Passed, Unclear}
-use Rattle.script.specs.declared.Script.{Script}
-use Rattle.script.specs.declared.Script.TheVariants.{Fields as Tells, NotUnderstood, More, NoRoom}
-use Rattle.script.specs.declared.Printed.{Printed}
-use Rattle.script.specs.declared.Printed.TheVariants.{Bytes, NoRoom as NoSpace}
+use Rattle.script.specs.declared.NotRead.{NotRead}
+use Rattle.script.specs.declared.NotRead.TheVariants.{NotUnderstood, More, NoRoom}
+use Rattle.script.specs.declared.Shown.{Shown}
 use Rattle.script.specs.Forms.{forms, most_fields, allows, loose_letter, count_of, shown, form_for, Finding, goes, speaks, other, Saying, fields, another, ended, says}
 use Rattle.script.specs.Stages.{letter_of, first_due, due_after}
 
@@ -93,34 +91,42 @@ script_if_room most size text = cond (ltb size (most + most_fields)) roomless (t
 
 -- ---- what the answers of the code stand for
 
-abbrev pub found_in : Found → List ℕ → Finding
-found_in (Goes at) line = goes (drop at line)
-found_in (Speaks v at) line = speaks v (drop at line)
-found_in Other line = other
+abbrev pub found_in : Found → Finding
+found_in (Goes rest) = goes rest.now
+found_in (Speaks v rest) = speaks v rest.now
+found_in Other = other
 
-abbrev pub said_in : Said → List ℕ → Saying
-said_in (Fields n) room = fields (take n room)
-said_in Another room = another
+abbrev pub said_in : Option ℕ → List ℕ → Saying
+said_in (Some n) room = fields (take n room)
+said_in None room = another
 
 abbrev pub line_in : Line → List ℕ → LineSaying
 line_in (Takes n loose) room = takes (take n room) loose
 line_in Passed room = passes
 line_in Unclear room = unclear
 
-abbrev pub script_in : Script → List ℕ → Telling
-script_in (Tells n) room = tells (take n room)
-script_in (NotUnderstood n) room = unclear_at n
-script_in (More n) room = more_at n
-script_in NoRoom room = roomless
+abbrev pub unread : NotRead → Telling
+unread (NotUnderstood n) = unclear_at n
+unread (More n) = more_at n
+unread NoRoom = roomless
+
+abbrev pub script_in : Result ℕ NotRead → List ℕ → Telling
+script_in (Ok n) room = tells (take n room)
+script_in (Err why) room = unread why
+
+-- this is the line of the fields by the form: its text, how many it says, and whether numbers alone follow
+abbrev pub ShownBy : List ℕ → List ℕ → Shown → Type 0
+ShownBy form fs r =
+    (text_of r.text ≡ with_all [] (shown form fs ++ line_feed)) × ((r.fields ≡ count_of form) × (r.loose ≡ allows form loose_letter))
 
 -- a text, or that the room is too small
 pub data Print : Type 0 where
   text : List ℕ → Print
   too_small : Print
 
-abbrev pub printed_in : Printed → List ℕ → Print
-printed_in (Bytes n) room = text (take n room)
-printed_in NoSpace room = too_small
+abbrev pub printed_in : Option ℕ → List ℕ → Print
+printed_in (Some n) room = text (take n room)
+printed_in None room = too_small
 
 unfoldable pub printed_if_room : List ℕ → ℕ → Print
 printed_if_room t size = cond (leb (length t) size) (text t) too_small

@@ -1,15 +1,16 @@
 // A book as text, a line for each thing that stands in it, in words; and the fields that such a text says.
+//
+// The loops over rows and lines are no counts: each turn goes on behind the line that it read or wrote.
 #![tactic(auto)]
 
 ghost use Rattle.std.specs.Prelude.{◌≡◌, true, [], ◌++◌, ◌+◌, ◌≤◌, length, take, drop, get_or};
-ghost use Rattle.plan.specs.Lines.{past_blanks};
 ghost use Rattle.listing.specs.Words.{line_feed};
 ghost use Rattle.listing.specs.Texts.{text_of, with_all};
-ghost use Rattle.script.specs.Forms.{table, forms, most_fields, sign_of, blank_first, first_is, ended, is_figure, numeral_of, found_by, says, allows, loose_letter, takes, is_own, fits, count_of, piece_of, shown, form_for};
+ghost use Rattle.script.specs.Forms.{table, forms, most_fields, sign_of, blank_first, ended, is_figure, figure_first, numeral_of, found_by, says, allows, loose_letter, takes, is_own, fits, count_of, piece_of, shown, form_for};
 ghost use Rattle.script.specs.Stages.{letter_of, first_due, stage_due, counted_due, due_after};
-ghost use Rattle.script.specs.Scripts.{found_in, said_in, line_says, one_says, first_says, line_in, script_in, script_if_room, book_text, printed_in, printed_if_room};
+ghost use Rattle.script.specs.Scripts.{found_in, said_in, line_says, one_says, first_says, line_in, script_in, script_if_room, ShownBy, book_text, printed_in, printed_if_room};
 
-use listing::{Put, Text};
+use listing::Text;
 use number::Edition;
 
 // What a byte of a form stands for: a field that has this value and is not written in the line; a field that is written there, as a number; a blank; a letter; nothing.
@@ -44,22 +45,17 @@ pub struct Due {
     edition: Edition,
 }
 
-// What a byte of a form finds in a line: it goes on at a place; it says a field, and goes on at a place; or something else stands there.
+// What a byte of a form finds at the front of a line: it goes on with what is left; it says a field, and goes on with what is left; or something else stands there. These are three
+// cases of one rank: one `Option` inside another would have no word for the first two.
 #[derive(Drop)]
-enum Found {
-    Goes(usize),
-    Speaks(u32, usize),
+enum Found<'a> {
+    Goes(&'a [u8]),
+    Speaks(u32, &'a [u8]),
     Other,
 }
 
-// What a line says by one form: so many fields stand in the room now; or it is of another form.
-#[derive(Drop)]
-enum Said {
-    Fields(usize),
-    Another,
-}
-
-// What a line says: so many fields stand in the room now, and whether numbers alone follow; nothing, if it is passed over; or it is not understood.
+// What a line says: so many fields stand in the room now, and whether numbers alone follow; nothing, if it is passed over; or it is not understood. A line that is passed over is
+// neither an error nor a value, so that this is no `Result`.
 #[derive(Drop)]
 enum Line {
     Takes(usize, bool),
@@ -75,20 +71,12 @@ struct Shown {
     loose: bool,
 }
 
-// What a text says: so many fields, at the front of the room; the number of the first line that is not understood, from 1; that of the first line with which there are
-// more fields than asked for; or that the room is too small.
-#[derive(Drop)]
-pub enum Script {
-    Fields(usize),
+// Why a text was not read: the number of the first line that is not understood, from 1; that of the first line with which there are more fields than asked for; or the room is too
+// small.
+#[derive(Clone, Copy)]
+pub enum NotRead {
     NotUnderstood(usize),
     More(usize),
-    NoRoom,
-}
-
-// What showing fields answers: so many bytes of text, at the front of the room; or that it is too small.
-#[derive(Drop)]
-pub enum Printed {
-    Bytes(usize),
     NoRoom,
 }
 
@@ -130,26 +118,20 @@ impl Form {
     const LARGEST: usize = 4294967295;
 
     // The stage of numbers alone.
-    const LOOSE: u8 = 74;
+    const LOOSE: u8 = b'J';
 }
 
 // What a byte of a form stands for.
 fn sign_of(b: u8) -> Sign
     ensures { result ≡ sign_of b }
 {
-    if b == 35 {
-        return Sign::Number;
+    match b {
+        b'#' => Sign::Number,
+        b' ' => Sign::Blank,
+        b'0'..=b'?' => Sign::Fixed((b - b'0') as u32),
+        b'a'..=b'z' => Sign::Letter,
+        _ => Sign::Nothing,
     }
-    if b == 32 {
-        return Sign::Blank;
-    }
-    if (48 <= b) & (b < 64) {
-        return Sign::Fixed((b - 48) as u32);
-    }
-    if (97 <= b) & (b <= 122) {
-        return Sign::Letter;
-    }
-    Sign::Nothing
 }
 
 impl Stage {
@@ -158,18 +140,18 @@ impl Stage {
         ensures { result ≡ letter_of self edition }
     {
         match self {
-            Stage::Edition => 65,
-            Stage::Sagas => 66,
-            Stage::Steps => 67,
-            Stage::Plain => 68,
-            Stage::Objects => 69,
-            Stage::Dependencies => 70,
-            Stage::Entries => 71,
+            Stage::Edition => b'A',
+            Stage::Sagas => b'B',
+            Stage::Steps => b'C',
+            Stage::Plain => b'D',
+            Stage::Objects => b'E',
+            Stage::Dependencies => b'F',
+            Stage::Entries => b'G',
             Stage::Events => match edition {
-                Edition::First => 72,
-                Edition::Second => 73,
+                Edition::First => b'H',
+                Edition::Second => b'I',
             },
-            Stage::Loose => 74,
+            Stage::Loose => b'J',
         }
     }
 }
@@ -251,136 +233,122 @@ impl Due {
 
 // ---- what a line says
 
-// A blank, a tab or a carriage return stands at a place.
-fn blank_at(line: &[u8], at: usize) -> bool
-    ensures { result ≡ blank_first (drop at line.now) }
+// A blank, a tab or a carriage return stands first.
+fn blank_first(line: &[u8]) -> bool
+    ensures { result ≡ blank_first line.now }
 {
-    if line.len() <= at {
-        return false;
+    match line {
+        [b, ..] => plan::is_blank(*b, true),
+        [] => false,
     }
-    plan::is_blank(line[at], true)
-}
-
-// This byte stands at a place.
-fn stands_at(line: &[u8], at: usize, b: u8) -> bool
-    ensures { result ≡ first_is b (drop at line.now) }
-{
-    if line.len() <= at {
-        return false;
-    }
-    line[at] == b
-}
-
-// The place behind the blanks that stand at a place.
-fn past_blanks(line: &[u8], at: usize) -> usize
-    ensures { drop result line.now ≡ past_blanks true (drop at line.now) }
-{
-    if line.len() <= at {
-        return at;
-    }
-    let rest = plan::past_blanks(&line[at..], true);
-    line.len() - rest.len()
 }
 
 // Nothing more stands in the line, or a remark.
-fn ended(line: &[u8], at: usize) -> bool
-    ensures { result ≡ ended (drop at line.now) }
+fn ended(line: &[u8]) -> bool
+    ensures { result ≡ ended line.now }
 {
-    let next = past_blanks(line, at);
-    if line.len() <= next {
-        return true;
+    match plan::past_blanks(line, true) {
+        [b, ..] => *b == b'#',
+        [] => true,
     }
-    line[next] == 35
 }
 
 fn is_figure(b: u8) -> bool
     ensures { result ≡ is_figure b }
 {
-    (48 <= b) & (b < 58)
+    (b'0' <= b) & (b <= b'9')
 }
 
-// The number that stands at a place, in figures.
-fn numeral(line: &[u8], at: usize) -> Found
-    ensures { found_in result line.now ≡ numeral_of (drop at line.now) }
+// A figure stands first.
+fn figure_first(line: &[u8]) -> bool
+    ensures { result ≡ figure_first line.now }
 {
-    if line.len() <= at {
-        return Found::Other;
+    match line {
+        [b, ..] => is_figure(*b),
+        [] => false,
     }
-    if !is_figure(line[at]) {
+}
+
+// The number that stands first, in figures.
+fn numeral<'a>(line: &'a [u8]) -> Found<'a>
+    ensures { found_in result ≡ numeral_of line.now }
+{
+    if !figure_first(line) {
         return Found::Other;
     }
     let mut v: usize = 0;
-    let mut i = at;
-    while i < line.len() {
-        let b = line[i];
-        if !is_figure(b) {
-            return Found::Speaks(v as u32, i);
+    for (i, b) in line.iter().enumerate() {
+        if !is_figure(*b) {
+            return Found::Speaks(v as u32, &line[i..]);
         }
-        let figure = (b - 48) as usize;
+        let figure = (*b - b'0') as usize;
         let more = 10 * v + figure;
         if Form::LARGEST < more {
             return Found::Other;
         }
         v = more;
-        i += 1;
     }
-    Found::Speaks(v as u32, i)
+    Found::Speaks(v as u32, &line[line.len()..])
 }
 
-// What a byte of a form finds at a place of a line.
-fn found_by(line: &[u8], at: usize, b: u8) -> Found
-    ensures { found_in result line.now ≡ found_by b (drop at line.now) }
+// What a byte of a form finds at the front of a line.
+fn found_by<'a>(line: &'a [u8], b: u8) -> Found<'a>
+    ensures { found_in result ≡ found_by b line.now }
 {
     let sign = sign_of(b);
     match sign {
-        Sign::Fixed(v) => Found::Speaks(v, at),
-        Sign::Number => numeral(line, at),
+        Sign::Fixed(v) => Found::Speaks(v, line),
+        Sign::Number => numeral(line),
         Sign::Blank => {
-            if !blank_at(line, at) {
+            if !blank_first(line) {
                 return Found::Other;
             }
-            let next = past_blanks(line, at);
-            Found::Goes(next)
+            let rest = plan::past_blanks(line, true);
+            Found::Goes(rest)
         }
-        Sign::Letter => {
-            if !stands_at(line, at, b) {
-                return Found::Other;
+        Sign::Letter => match line {
+            [first, rest @ ..] => {
+                if *first != b {
+                    return Found::Other;
+                }
+                Found::Goes(rest)
             }
-            let next = at + 1;
-            Found::Goes(next)
-        }
-        Sign::Nothing => Found::Goes(at),
+            [] => Found::Other,
+        },
+        Sign::Nothing => Found::Goes(line),
     }
 }
 
-// What a line says from a place on by one form, behind the fields that stand in the room already.
-fn said_by(form: &[u8], line: &[u8], start: usize, room: &mut [u32], from: usize) -> Said
+// The room and how many fields stand in it are two parameters of the four functions `said_by`, `one_says`, `first_said` and `line_says`: a form may break off behind fields that it
+// wrote, and the next one starts at the same count, so that a struct of both would have to be set back by hand. That the fields before the count stay is one equation, and a name
+// for it would be no plainer.
+
+// What a line says by one form, behind the fields that stand in the room already: so many fields stand there now; none, if it is of another form.
+fn said_by(form: &[u8], line: &[u8], room: &mut [u32], from: usize) -> Option<usize>
     requires { from + count_of form.now ≤ length room.old }
-    ensures room_after { said_in result room.new ≡ says form.now (drop start line.now) (take from room.old) }
+    ensures room_after { said_in result room.new ≡ says form.now line.now (take from room.old) }
     ensures room_unchanged { take from room.new ≡ take from room.old }
 {
-    let mut at = start;
+    let mut rest = line;
     let mut n = from;
-    let mut i: usize = 0;
-    while i < form.len() {
-        let found = found_by(line, at, form[i]);
+    for b in form {
+        let found = found_by(rest, *b);
         match found {
             Found::Goes(next) => {
-                at = next;
+                rest = next;
             }
             Found::Speaks(v, next) => {
                 room[n] = v;
                 n += 1;
-                at = next;
+                rest = next;
             }
-            Found::Other => return Said::Another,
+            Found::Other => return None,
         }
-        i += 1;
     }
-    if !ended(line, at) {
-        return Said::Another;
+    if !ended(rest) {
+        return None;
     }
-    Said::Fields(n)
+    Some(n)
 }
 
 // The form may stand at the stage that has this letter.
@@ -393,47 +361,33 @@ fn allows(form: &[u8], letter: u8) -> bool
     (form[0] <= letter) & (letter <= form[1])
 }
 
-// What a line says from a place on by one form, if that may stand there.
-fn one_says(
-    form: &[u8],
-    letter: u8,
-    line: &[u8],
-    start: usize,
-    room: &mut [u32],
-    from: usize,
-) -> Line
+// What a line says by one form, if that may stand there.
+fn one_says(form: &[u8], letter: u8, line: &[u8], room: &mut [u32], from: usize) -> Line
     requires { from + count_of form.now ≤ length room.old }
-    ensures room_after { line_in result room.new ≡ one_says form.now letter (drop start line.now) (take from room.old) }
+    ensures room_after { line_in result room.new ≡ one_says form.now letter line.now (take from room.old) }
     ensures room_unchanged { take from room.new ≡ take from room.old }
 {
     if !allows(form, letter) {
         return Line::Unclear;
     }
-    let said = said_by(form, line, start, room, from);
-    let Said::Fields(n) = said else {
+    let said = said_by(form, line, room, from);
+    let Some(n) = said else {
         return Line::Unclear;
     };
     let loose = allows(form, Form::LOOSE);
     Line::Takes(n, loose)
 }
 
-// What a line says from a place on by the first form that it has of those that may stand there.
-fn first_said(
-    rows: &[u8],
-    letter: u8,
-    line: &[u8],
-    start: usize,
-    room: &mut [u32],
-    from: usize,
-) -> Line
+// What a line says by the first form that it has of those that may stand there.
+fn first_said(rows: &[u8], letter: u8, line: &[u8], room: &mut [u32], from: usize) -> Line
     requires { (rows.now ≡ table) × (from + most_fields ≤ length room.old) }
-    ensures room_after { line_in result room.new ≡ first_says forms letter (drop start line.now) (take from room.old) }
+    ensures room_after { line_in result room.new ≡ first_says forms letter line.now (take from room.old) }
     ensures room_unchanged { take from room.new ≡ take from room.old }
 {
     let mut at: usize = 0;
     while at < rows.len() {
         let end = plan::line_end(rows, at);
-        let one = one_says(&rows[at..end], letter, line, start, room, from);
+        let one = one_says(&rows[at..end], letter, line, room, from);
         match one {
             Line::Takes(_, _) => return one,
             Line::Passed => return one,
@@ -450,22 +404,22 @@ fn line_says(letter: u8, line: &[u8], room: &mut [u32], from: usize) -> Line
     ensures room_after { line_in result room.new ≡ line_says letter line.now (take from room.old) }
     ensures room_unchanged { take from room.new ≡ take from room.old }
 {
-    if ended(line, 0) {
+    if ended(line) {
         return Line::Passed;
     }
-    let start = past_blanks(line, 0);
-    first_said(&Form::ROWS, letter, line, start, room, from)
+    let rest = plan::past_blanks(line, true);
+    first_said(&Form::ROWS, letter, rest, room, from)
 }
 
-// The fields that a text says, up to so many, at the front of the room.
-pub fn read(text: &[u8], most: usize, room: &mut [u32]) -> Script
+// The fields that a text says, up to so many, at the front of the room; the answer is how many there are.
+pub fn read(text: &[u8], most: usize, room: &mut [u32]) -> Result<usize, NotRead>
     ensures { script_in result room.new ≡ script_if_room most (length room.old) text.now }
 {
     if room.len() < Form::FIELDS {
-        return Script::NoRoom;
+        return Err(NotRead::NoRoom);
     }
     if room.len() - Form::FIELDS < most {
-        return Script::NoRoom;
+        return Err(NotRead::NoRoom);
     }
     let mut due = Due::first();
     let mut n: usize = 0;
@@ -478,20 +432,19 @@ pub fn read(text: &[u8], most: usize, room: &mut [u32]) -> Script
         match line {
             Line::Takes(m, loose) => {
                 if most < m {
-                    return Script::More(number);
+                    return Err(NotRead::More(number));
                 }
                 let first = field(&room[..m], n);
-                let next = due.after(loose, first);
-                due = next;
+                due = due.after(loose, first);
                 n = m;
             }
             Line::Passed => {}
-            Line::Unclear => return Script::NotUnderstood(number),
+            Line::Unclear => return Err(NotRead::NotUnderstood(number)),
         }
         number += 1;
         at = end + 1;
     }
-    Script::Fields(n)
+    Ok(n)
 }
 
 // ---- the line for some fields
@@ -534,14 +487,11 @@ fn fits(form: &[u8], fields: &[u32]) -> bool
     ensures { result ≡ fits form.now fields.now }
 {
     let mut n: usize = 0;
-    let mut i: usize = 0;
-    while i < form.len() {
-        let b = form[i];
-        if !is_own(b, fields, n) {
+    for b in form {
+        if !is_own(*b, fields, n) {
             return false;
         }
-        n += takes(b);
-        i += 1;
+        n += takes(*b);
     }
     true
 }
@@ -572,19 +522,14 @@ fn with_piece(text: Text, b: u8, v: usize) -> Text
 
 // The line by a form.
 fn shown_by(form: &[u8], fields: &[u32]) -> Shown
-    ensures text_value { text_of result.text ≡ with_all [] (shown form.now fields.now ++ line_feed) }
-    ensures fields_value { (result.fields ≡ count_of form.now) × (result.loose ≡ allows form.now loose_letter) }
+    ensures { ShownBy form.now fields.now result }
 {
     let mut text = Text::empty();
     let mut n: usize = 0;
-    let mut i: usize = 0;
-    while i < form.len() {
-        let b = form[i];
+    for b in form {
         let v = field(fields, n);
-        let longer = with_piece(text, b, v);
-        text = longer;
-        n += takes(b);
-        i += 1;
+        text = with_piece(text, *b, v);
+        n += takes(*b);
     }
     let whole = text.end();
     let loose = allows(form, Form::LOOSE);
@@ -598,8 +543,7 @@ fn shown_by(form: &[u8], fields: &[u32]) -> Shown
 // The line for the first of some fields, by the first form that may stand there and says them; by the last form, if none does.
 fn line_for(rows: &[u8], letter: u8, fields: &[u32]) -> Shown
     requires { rows.now ≡ table }
-    ensures text_value { text_of result.text ≡ with_all [] (shown (form_for forms letter fields.now) fields.now ++ line_feed) }
-    ensures fields_value { (result.fields ≡ count_of (form_for forms letter fields.now)) × (result.loose ≡ allows (form_for forms letter fields.now) loose_letter) }
+    ensures { ShownBy (form_for forms letter fields.now) fields.now result }
 {
     let mut at: usize = 0;
     loop {
@@ -618,14 +562,13 @@ fn line_for(rows: &[u8], letter: u8, fields: &[u32]) -> Shown
 
 // The line for the first of some fields, at the stage that has this letter.
 fn first_line(letter: u8, fields: &[u32]) -> Shown
-    ensures text_value { text_of result.text ≡ with_all [] (shown (form_for forms letter fields.now) fields.now ++ line_feed) }
-    ensures fields_value { (result.fields ≡ count_of (form_for forms letter fields.now)) × (result.loose ≡ allows (form_for forms letter fields.now) loose_letter) }
+    ensures { ShownBy (form_for forms letter fields.now) fields.now result }
 {
     line_for(&Form::ROWS, letter, fields)
 }
 
-// The text of fields, at the front of the room.
-pub fn show(fields: &[u32], room: &mut [u8]) -> Printed
+// The text of fields, at the front of the room; the answer is how many bytes it has, or none where the room is too small.
+pub fn show(fields: &[u32], room: &mut [u8]) -> Option<usize>
     ensures { printed_in result room.new ≡ printed_if_room (book_text fields.now) (length room.old) }
 {
     let mut due = Due::first();
@@ -637,14 +580,10 @@ pub fn show(fields: &[u32], room: &mut [u8]) -> Printed
         let text = line.text;
         let loose = line.loose;
         let said = line.fields;
-        let put = text.put(&mut room[n..]);
-        let Put::Wrote(more) = put else {
-            return Printed::NoRoom;
-        };
+        let more = text.put(&mut room[n..])?;
         n += more;
-        let next = due.after(loose, fields[at] as usize);
-        due = next;
+        due = due.after(loose, fields[at] as usize);
         at += said;
     }
-    Printed::Bytes(n)
+    Some(n)
 }

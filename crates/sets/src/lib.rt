@@ -1,4 +1,5 @@
-// A set of transactions is held as the bits of one number: bit t is 1 when t is in the set.
+// A set of transactions is held as the bits of one number: bit t is 1 when t is in the set. It has no type of its own: C is given
+// such numbers as they are (`desk::pairs`), and `mem`, `inserted` and `less`, which the clauses name, are of a number.
 #![tactic(auto)]
 
 ghost use Rattle.std.specs.Prelude.{◌≡◌};
@@ -19,6 +20,7 @@ pub fn member(set: u64, t: usize) -> bool
 }
 
 // The set with t too; a number past 63 goes into none.
+#[tactic(auto, unfolding(crate::specs::Sets::inserted))]
 pub fn with_member(set: u64, t: usize) -> u64
     ensures { result ≡ inserted set t }
 {
@@ -29,6 +31,7 @@ pub fn with_member(set: u64, t: usize) -> u64
 }
 
 // Those in the set that are not among the others.
+#[tactic(auto, unfolding(crate::specs::Sets::less))]
 pub fn without(set: u64, others: u64) -> u64
     ensures { result ≡ less set others }
 {
@@ -39,12 +42,12 @@ pub fn without(set: u64, others: u64) -> u64
 pub fn how_many(set: u64) -> usize
     ensures { result ≡ count_below most_transactions (mem set) }
 {
-    u64::count_ones(set) as usize
+    set.count_ones() as usize
 }
 
-// The lowest in the set, 64 where there is none.
+// The lowest in the set, 64 where there is none. It is no Option: its clause names `first_below`, which is the bound where nothing is found, and C is told the same 64.
 pub fn lowest(set: u64) -> usize
     ensures { result ≡ first_below most_transactions (mem set) }
 {
-    u64::trailing_zeros(set) as usize
+    set.trailing_zeros() as usize
 }

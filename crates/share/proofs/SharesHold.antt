@@ -1,7 +1,7 @@
 -- A share is in lowest terms, and it is the share.
 use Prim.Native.Nat.{ℕ, zero, suc, ◌*◌, ◌/◌, ◌<◌, ◌∣◌}
 use native.Mathlib.Omega.{arith}
-use native.Mathlib.Nat.{div-mul_cancel, dvd-mul_right, dvd_of_mul-dvd-mul_right, dvd-one, dvd_refl, dvd-zero, eq_of_mul-eq-mul_right, mul_assoc, mul_comm, mul-dvd-mul_right, one-mul, pos_of_dvd_of_pos, zero-div, zero-mul}
+use native.Mathlib.Nat.{div-mul_cancel, dvd-mul_right, dvd_of_mul-dvd-mul_right, dvd-one, dvd_refl, dvd-zero, mul_assoc, mul_comm, mul-dvd-mul_right, one-mul, pos_of_dvd_of_pos, zero-div}
 use mathlib.Core.Path.{◌≡◌, refl, sym, ap, ◌∙◌, subst}
 use Rattle.share.specs.Promises.{GreatestCommon, InLowestTerms, Shares}
 use Rattle.share.specs.Shares.{common_divisor, lowest}

@@ -29,10 +29,8 @@ pub fn lowest(part: u64, whole: u64) -> Share
         return Share { part: 0, whole: 1 };
     }
     let divisor = common_divisor(part, whole);
-    let above = part / divisor;
-    let below = whole / divisor;
     Share {
-        part: above,
-        whole: below,
+        part: part / divisor,
+        whole: whole / divisor,
     }
 }

@@ -28,6 +28,7 @@ impl Sheet {
     pub const NUMBERS: usize = 195;
 }
 
+// Sorts and kinds are codes on the sheet, since C lends that memory, and any number has to stand for something.
 fn sort_by(k: u32, f: u16, n: u16, i: u16) -> Sort
     ensures { result ≡ sort_by k f n i }
 {
@@ -58,11 +59,7 @@ pub fn sort_at(sheet: &[u32; Sheet::NUMBERS], t: usize) -> Sort
 pub fn count_in(c: u32, most: usize) -> usize
     ensures { result ≡ min c most }
 {
-    let count = c as usize;
-    if count < most {
-        return count;
-    }
-    most
+    most.min(c as usize)
 }
 
 // The dependency that a number stands for.
@@ -122,7 +119,8 @@ fn dependency_code(d: Dependency) -> u32
     a + 256 * b + 65536 * k
 }
 
-// Writes the sorts: saga after saga, then the plain ones, then those that are none.
+// Writes the sorts: saga after saga, then the plain ones, then those that are none. One loop goes through the numbers, and none through the sagas with one for each saga's numbers
+// inside: tables of any numbers come in here, whose sagas may own more than the sheet has, so that loop would have to test every place again before it writes.
 fn put_sorts(sheet: &mut [u32; Sheet::NUMBERS], tables: Tables)
     requires { length sheet.old ≡ 195 }
     ensures { (length sheet.new ≡ 195)
@@ -160,11 +158,9 @@ fn put_dependencies(sheet: &mut [u32; Sheet::NUMBERS], tables: Tables)
         × ((t : ℕ) → t < most_transactions → get_or sheet.new t 0 ≡ get_or sheet.old t 0)) }
 {
     let declared = tables.dependency_count();
-    let mut i: usize = 0;
-    while i < declared {
+    for i in 0..declared {
         let d = tables.dependencies[i];
         sheet[Book::TRANSACTIONS + i] = dependency_code(d);
-        i += 1;
     }
 }
 

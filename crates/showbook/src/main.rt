@@ -4,9 +4,8 @@
 // not be read or written is said there too, and nothing else.
 #![tactic(auto)]
 
-use input::Filled;
-use packing::Unpacked;
-use script::Printed;
+use packing::NotUnpacked;
+use std::env::Env;
 use std::io;
 use std::process::ExitCode;
 use terms::{Book, Refusal, Verdict};
@@ -30,44 +29,23 @@ fn say_end(rt: &impl Eprint, book: &[u8]) {
 
 // How many fields of a book stand in the room now: all, or those before the first that is none.
 fn unpack(book: &[u8], most: u32, room: &mut [u32]) -> usize {
-    let unpacked = packing::unpack(book, most, room);
-    match unpacked {
-        Unpacked::Fields(n) => n,
-        Unpacked::FaultAt(_, place) => unpack_before(book, place, most, room),
-        Unpacked::NoRoomFor(_) => 0,
+    match packing::unpack(book, most, room) {
+        Ok(n) => n,
+        Err(NotUnpacked::At(fault)) => match book.get(..fault.place) {
+            Some(front) => packing::unpack(front, most, room).unwrap_or(0),
+            None => 0,
+        },
+        Err(NotUnpacked::NoRoomFor(_)) => 0,
     }
-}
-
-fn unpack_before(book: &[u8], place: usize, most: u32, room: &mut [u32]) -> usize {
-    if book.len() < place {
-        return 0;
-    }
-    let unpacked = packing::unpack(&book[..place], most, room);
-    match unpacked {
-        Unpacked::Fields(n) => n,
-        Unpacked::FaultAt(_, _) => 0,
-        Unpacked::NoRoomFor(_) => 0,
-    }
-}
-
-// What is said of a room that is too small for what is put there; none is.
-fn no_room() -> io::Error {
-    io::Error::other("there is no room for it")
 }
 
 // Writes the text of the first fields by way of a room.
 fn print_by(rt: &impl Print, fields: &[u32], n: usize, room: &mut [u8]) -> io::Result<()> {
-    if fields.len() < n {
-        return Err(no_room());
-    }
-    let printed = script::show(&fields[..n], room);
-    let Printed::Bytes(size) = printed else {
-        return Err(no_room());
+    let put = match fields.get(..n) {
+        Some(front) => script::show(front, room),
+        None => None,
     };
-    if room.len() < size {
-        return Err(no_room());
-    }
-    rt.write_all(&room[..size])
+    input::write_front(rt, room, put)
 }
 
 // Writes the text of a book by way of two rooms.
@@ -103,16 +81,13 @@ fn show(rt: &(impl Print + Eprint), book: &[u8]) -> ExitCode {
 fn show_input(rt: &(impl Input + Print + Eprint)) -> ExitCode {
     let mut bytes = [0u8; 65537];
     match input::fill(&mut rt.reader(), &mut bytes) {
-        Filled::Whole(n) => show(rt, &bytes[..n]),
-        Filled::Failed(reason) => {
-            input::fail(rt, "showbook: the book was not read", reason);
-            ExitCode::SUCCESS
-        }
+        Ok(n) => show(rt, &bytes[..n]),
+        Err(reason) => input::fail(rt, "showbook: the book was not read", reason),
     }
 }
 
 fn main(rt: HostRuntime) -> ExitCode {
-    if input::has_word(&rt, 1) {
+    if input::is_word(rt.arg(1, &mut [])) {
         let _ = eprintln!(rt; "usage: showbook < BOOK");
         return ExitCode::SUCCESS;
     }

@@ -13,14 +13,12 @@ use Rattle.laws.proofs.Decisions.{same_or}
 use Rattle.terms.specs.Limits.{most_sagas, most_steps, most_transactions, most_objects, most_dependencies}
 use Rattle.terms.specs.declared.Refusal.TheVariants.{BadCount}
 use Rattle.number.specs.Number.{ceiling_of}
-use Rattle.number.proofs.Spelling.{no_value}
+use Rattle.number.proofs.Spelling.{no_value, value-parts}
 use Rattle.number.proofs.FieldLaws.{within-range, within-next}
 use Rattle.tables.specs.declared.Circles.{Circles}
 use Rattle.tables.specs.declared.Dependency.{Dependency}
 use Rattle.tables.specs.declared.Tables.{Tables}
-use Rattle.number.specs.declared.Field.TheVariants.{Value}
 use Rattle.tables.specs.declared.SagasRead.{SagasRead}
-use Rattle.tables.specs.declared.TablesAnswer.TheVariants.{Read}
 use Rattle.tables.specs.declared.TablesRead.{TablesRead}
 use Rattle.tables.specs.Sorts.{sort_of, owned_by, number_of_all}
 use Rattle.tables.specs.Dependencies.{kind_number, kind_of, no_dependency, dependency_at, allowed, rises_from, rises_to, entry_holds}
@@ -30,6 +28,7 @@ use Rattle.tables.proofs.KindLaws.{kind-back}
 use Rattle.tables.proofs.DependencyLaws.{on-allowed, on-holds}
 use Rattle.tables.proofs.SortLaws.{owned-snoc}
 use Rattle.tables.proofs.WayLaws.{no_read, sagas-next, by-circle, by-saga, by-entry, by-rest, by-tables}
+use Rattle.std.specs.Prelude.{Ok}
 
 -- i is the last, or one before it
 last_or : {A : Type 0} (i m : ℕ) → i < m + 1 → (i ≡ m → A) → (i < m → A) → A
@@ -82,12 +81,12 @@ none_read k h =
     }
 
 module _ (cap : ℕ) (s : List ℕ) where
-  sagas-all : (k at sum : ℕ) (t : Tables) (v p : ℕ) → at ≤ length s → Sagas k sum t → (sagas_from cap s k at sum t).answer ≡ Value v p
+  sagas-all : (k at sum : ℕ) (t : Tables) (v p : ℕ) → at ≤ length s → Sagas k sum t → (sagas_from cap s k at sum t).answer ≡ Ok (v, p)
       → Sagas 0 v (sagas_from cap s k at sum t).tables
   unfolding sagas_from
-  sagas-all zero at sum t v p b h e = let q : sum ≡ v = cc in rw q at h
+  sagas-all zero at sum t v p b h e = rw (value-parts e).0 at h
   sagas-all (suc k) at sum t v p b h e =
-      by-saga cap s k at sum t (λ (r : SagasRead). r.answer ≡ Value v p → Sagas 0 v r.tables) b
+      by-saga cap s k at sum t (λ (r : SagasRead). r.answer ≡ Ok (v, p) → Sagas 0 v r.tables) b
       (λ r q f. no_value)
       (λ n next f l g.
       let r = within-range cap s at 1 most_steps BadCount n next f in
@@ -95,7 +94,7 @@ module _ (cap : ℕ) (s : List ℕ) where
       (sagas-step k sum n t h r.0 r.1 l) g)
       e
 
-  pub sagas-read : (k at v p : ℕ) → k ≤ most_sagas → at ≤ length s → (sagas_from cap s k at 0 empty_tables).answer ≡ Value v p
+  pub sagas-read : (k at v p : ℕ) → k ≤ most_sagas → at ≤ length s → (sagas_from cap s k at 0 empty_tables).answer ≡ Ok (v, p)
       → Sagas 0 v (sagas_from cap s k at 0 empty_tables).tables
   sagas-read k at v p h b e = sagas-all k at 0 empty_tables v p b (none_read k h) e
 
@@ -208,7 +207,7 @@ counts-read sum p m k t h a b l =
 -- ---- the whole
 
 abbrev WellRead : ℕ → TablesRead → Type 0
-WellRead x r = r.answer ≡ Read x → Well r.tables
+WellRead x r = r.answer ≡ Ok x → Well r.tables
 
 module _ (cap : ℕ) (s : List ℕ) (x : ℕ) where
   entries-all : (n k at : ℕ) (t : Tables) → at ≤ length s → Entries n k t → WellRead x (dependencies_from cap s n k at t)

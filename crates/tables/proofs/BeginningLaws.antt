@@ -7,7 +7,6 @@ use lib.ListN.{length, take}
 use Rattle.terms.specs.Limits.{most_sagas, most_steps, most_transactions, most_objects, most_dependencies}
 use Rattle.terms.specs.declared.Refusal.TheVariants.{BadEdition, BadCount}
 use Rattle.number.specs.declared.Edition.{Edition}
-use Rattle.number.specs.declared.Field.TheVariants.{Value}
 use Rattle.number.specs.Number.{ceiling_of, edition_number}
 use Rattle.number.proofs.Beginnings.{Agrees, number-local, number-extends, within_same}
 use Rattle.number.proofs.Spelling.{no_value, number_same}
@@ -16,19 +15,19 @@ use Rattle.number.proofs.FieldLaws.{within_in, within-next, within-range}
 use Rattle.tables.specs.declared.Circles.{Circles}
 use Rattle.tables.specs.declared.Tables.{Tables}
 use Rattle.tables.specs.declared.SagasRead.{SagasRead}
-use Rattle.tables.specs.declared.TablesAnswer.TheVariants.{Read}
 use Rattle.tables.specs.declared.TablesRead.{TablesRead}
 use Rattle.tables.specs.Reading.{empty_tables, with_saga, sagas_from, with_entry, dependencies_from, with_counts, unless_circle, rest_from, tables_by, edition_ceiling, edition_field}
 use Rattle.tables.proofs.ReadingLaws.{sagas-more, entries-more, rest4, all4}
 use Rattle.tables.proofs.WayLaws.{no_read, sagas-next, by-circle, by-saga, entry-inside, by-entry, by-rest, by-tables}
+use Rattle.std.specs.Prelude.{Ok}
 
 module _ (cap : ℕ) (s u : List ℕ) (o : ℕ) (same : Agrees cap s u o) where
-  sagas-same : (k at sum : ℕ) (t : Tables) (v p : ℕ) → at ≤ length s → p ≤ o → (sagas_from cap s k at sum t).answer ≡ Value v p
+  sagas-same : (k at sum : ℕ) (t : Tables) (v p : ℕ) → at ≤ length s → p ≤ o → (sagas_from cap s k at sum t).answer ≡ Ok (v, p)
       → sagas_from cap u k at sum t ≡ sagas_from cap s k at sum t
   unfolding sagas_from
   sagas-same zero at sum t v p b h e = refl
   sagas-same (suc k) at sum t v p b h e =
-      by-saga cap s k at sum t (λ (r : SagasRead). r.answer ≡ Value v p → sagas_from cap u (suc k) at sum t ≡ r) b
+      by-saga cap s k at sum t (λ (r : SagasRead). r.answer ≡ Ok (v, p) → sagas_from cap u (suc k) at sum t ≡ r) b
       (λ r q f. no_value)
       (λ n next f l g.
       let w = (within-next cap s at 1 most_steps BadCount n next f).1 in
@@ -40,7 +39,7 @@ module _ (cap : ℕ) (s u : List ℕ) (o : ℕ) (same : Agrees cap s u o) where
   module _ (x : ℕ) (before : x ≤ o) where
     -- the place that was passed is not after the end, and u has the same
     abbrev Same : ℕ → TablesRead → TablesRead → Type 0
-    Same at other r = r.answer ≡ Read x → (at ≤ x) × (x ≤ length s) × (other ≡ r)
+    Same at other r = r.answer ≡ Ok x → (at ≤ x) × (x ≤ length s) × (other ≡ r)
 
     entries-same : (n k at : ℕ) (t : Tables) → at ≤ length s → Same at (dependencies_from cap u n k at t) (dependencies_from cap s n k at t)
     unfolding dependencies_from
@@ -77,7 +76,7 @@ module _ (cap : ℕ) (s u : List ℕ) (o : ℕ) (same : Agrees cap s u o) where
 
 -- the edition field too, whatever the ceiling
 module _ (ed : Edition) (s u : List ℕ) (o : ℕ) (same : Agrees (ceiling_of ed) s u o) where
-  first-same : (v next : ℕ) → edition_field ed s ≡ Value v next → next ≤ o → edition_field ed u ≡ Value v next
+  first-same : (v next : ℕ) → edition_field ed s ≡ Ok (v, next) → next ≤ o → edition_field ed u ≡ Ok (v, next)
   first-same v next f l =
       let first = within-range edition_ceiling s 0 (edition_number ed) (edition_number ed) BadEdition v next f in
       let here = number_same edition_ceiling (ceiling_of ed) s 0 v next first.2 (omega (arith, first.1, edition-low ed, ceiling-low ed)) in
@@ -104,13 +103,13 @@ module _ (ed : Edition) (s u : List ℕ) (o : ℕ) (same : Agrees (ceiling_of ed
 
 module _ (circles : Circles) (ed : Edition) (s : List ℕ) where
   -- the tables end within the book
-  pub tables-place : (at : ℕ) → (tables_by circles ed s).answer ≡ Read at → at ≤ length s
+  pub tables-place : (at : ℕ) → (tables_by circles ed s).answer ≡ Ok at → at ≤ length s
   tables-place at e = (tables-same ed s s at (λ x v next f h. f) at (omega arith) circles e).1
 
   -- a beginning that holds them has the same
-  pub tables-local : (at o : ℕ) → (tables_by circles ed s).answer ≡ Read at → at ≤ o → tables_by circles ed (take o s) ≡ tables_by circles ed s
+  pub tables-local : (at o : ℕ) → (tables_by circles ed s).answer ≡ Ok at → at ≤ o → tables_by circles ed (take o s) ≡ tables_by circles ed s
   tables-local at o e h = (tables-same ed s (take o s) o (λ x v next f l. number-local (ceiling_of ed) x v next s o f l) at h circles e).2
 
   -- and what a beginning has, the whole has
-  pub tables-extend : (at o : ℕ) → (tables_by circles ed (take o s)).answer ≡ Read at → tables_by circles ed s ≡ tables_by circles ed (take o s)
+  pub tables-extend : (at o : ℕ) → (tables_by circles ed (take o s)).answer ≡ Ok at → tables_by circles ed s ≡ tables_by circles ed (take o s)
   tables-extend at o e = (tables-same ed (take o s) s at (λ x v next f l. number-extends (ceiling_of ed) x v next s o f) at (omega arith) circles e).2

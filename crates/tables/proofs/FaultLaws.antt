@@ -9,10 +9,10 @@ use lib.Dec.{ltb}
 use Rattle.laws.proofs.Bools.{bool_cases}
 use Rattle.terms.specs.Refusals.{number_of}
 use Rattle.terms.specs.declared.Refusal.{Refusal}
-use Rattle.number.specs.Number.{number_at, held_to, number_within}
+use Rattle.number.specs.Number.{number_at, held_to, number_within, Field, fault}
 use Rattle.number.proofs.Faults.{number-fault}
-use Rattle.number.specs.declared.Field.{Field}
-use Rattle.number.specs.declared.Field.TheVariants.{Value, Fault}
+use Rattle.std.specs.Prelude.{Err, Ok}
+use Rattle.number.proofs.Spelling.{fault-parts}
 
 -- ---- a field of the tables
 
@@ -23,24 +23,22 @@ pub record Faulty (s : List ℕ) (r : Refusal) (p : ℕ) : Type 0 where
   pub high : number_of r ≤ 6
 
 module _ (cap : ℕ) (s : List ℕ) (at : ℕ) (b : at ≤ length s) where
-  pub field-fault : (r : Refusal) (p : ℕ) → number_at cap s at ≡ Fault r p → Faulty s r p
+  pub field-fault : (r : Refusal) (p : ℕ) → number_at cap s at ≡ fault r p → Faulty s r p
   field-fault r p e =
       let n = number-fault cap s at r p e in record { inside = omega (arith, n.0); low = n.1; high = omega (arith, n.2) }
 
   module _ (low high : ℕ) (q : Refusal) (own : Faulty s q at) where
-    held-fault : (c : Field) (r : Refusal) (p : ℕ) → ((r : Refusal) (p : ℕ) → c ≡ Fault r p → Faulty s r p)
-        → held_to at low high q c ≡ Fault r p → Faulty s r p
-    held-fault (Fault x y) r p h e = h r p e
-    held-fault (Value v next) r p h e =
+    held-fault : (c : Field) (r : Refusal) (p : ℕ) → ((r : Refusal) (p : ℕ) → c ≡ fault r p → Faulty s r p)
+        → held_to at low high q c ≡ fault r p → Faulty s r p
+    held-fault (Err f) r p h e = h r p e
+    held-fault (Ok (v, next)) r p h e =
         bool_cases (ltb v low || ltb high v)
         (λ t.
-        let z : Fault q at ≡ Fault r p = rw t at e in
-        let a : q ≡ r = cc in
-        let d : at ≡ p = cc in
-        rw (← a, ← d) own)
-        (λ t. let y : Value v next ≡ Fault r p = rw t at e in let z : ◌≡◌ {A = ℕ} 0 1 = cc in absurd (omega arith))
+        let same = fault-parts {A = ℕ × ℕ} (rw t at e) in
+        rw (← same.0, ← same.1) own)
+        (λ t. let y : Ok (v, next) ≡ fault r p = rw t at e in let z : ◌≡◌ {A = ℕ} 0 1 = cc in absurd (omega arith))
 
     -- of a field held against a range: that of its number, or that of the range at its place
-    pub within-fault : (r : Refusal) (p : ℕ) → number_within cap s at low high q ≡ Fault r p → Faulty s r p
+    pub within-fault : (r : Refusal) (p : ℕ) → number_within cap s at low high q ≡ fault r p → Faulty s r p
     unfolding number_within
     within-fault r p e = held-fault (number_at cap s at) r p field-fault e

@@ -17,28 +17,25 @@ use Rattle.terms.specs.declared.Refusal.TheVariants.{BadCount, BadEdition, Never
 use Rattle.sets.specs.Reach.{among, leads_to}
 use Rattle.sets.proofs.ReachLaws.{among-on, computed-leads, leads-computed, leads-more}
 use Rattle.number.specs.declared.Edition.{Edition}
-use Rattle.number.specs.Number.{ceiling_of, edition_number, number_at, number_within}
-use Rattle.number.proofs.Spelling.{no_value, number_same}
+use Rattle.number.specs.Number.{ceiling_of, edition_number, number_at, number_within, Field, fault}
+use Rattle.number.proofs.Spelling.{no_value, number_same, fault-parts, value-parts}
 use Rattle.number.proofs.EditionLaws.{ceiling-low, edition-low}
 use Rattle.number.proofs.FieldLaws.{within-range, within-next}
 use Rattle.tables.specs.Accepted.{CirclesRefused, GoesRound, NeverMovesRefused, Well, count_place, place_of_field}
 use Rattle.tables.specs.Circles.{begin_link, has_circle}
 use Rattle.tables.specs.Dependencies.{dependency_at}
-use Rattle.tables.specs.Reading.{dependencies_from, empty_tables, is_read, refused, rest_from, sagas_from, tables_by, unless_circle, with_counts, with_entry, with_saga, edition_field, edition_ceiling}
+use Rattle.tables.specs.Reading.{dependencies_from, empty_tables, is_read, refused, rest_from, sagas_from, tables_by, unless_circle, with_counts, with_entry, with_saga, edition_field, edition_ceiling, TablesAnswer}
 use Rattle.tables.specs.declared.Circles.{Circles}
 use Rattle.tables.specs.declared.Circles.TheVariants.{Forbidden, Permitted}
-use Rattle.number.specs.declared.Field.{Field}
-use Rattle.number.specs.declared.Field.TheVariants.{Fault, Value}
 use Rattle.tables.specs.declared.SagasRead.{SagasRead}
 use Rattle.tables.specs.declared.Tables.{Tables}
-use Rattle.tables.specs.declared.TablesAnswer.{TablesAnswer}
-use Rattle.tables.specs.declared.TablesAnswer.TheVariants.{Read, Refused}
 use Rattle.tables.specs.declared.TablesRead.{TablesRead}
 use Rattle.tables.proofs.AcceptedWellHolds.{accepted-well}
 use Rattle.tables.proofs.CircleLaws.{back-small, first_entry, linked-small}
 use Rattle.tables.proofs.ReadingLaws.{sagas-none}
 use Rattle.tables.proofs.RefusedLaws.{refused-number}
 use Rattle.tables.proofs.WayLaws.{by-entry, by-saga, no_read}
+use Rattle.std.specs.Prelude.{Err, Ok}
 
 -- ---- what going round means, in tables that were accepted
 
@@ -76,19 +73,19 @@ module _ (cap : ℕ) (s : List ℕ) where
   place-start = refl
 
   -- one field on
-  place-on : (n at low high : ℕ) (r : Refusal) (v next : ℕ) → place_of_field cap s n ≡ at → number_within cap s at low high r ≡ Value v next
+  place-on : (n at low high : ℕ) (r : Refusal) (v next : ℕ) → place_of_field cap s n ≡ at → number_within cap s at low high r ≡ Ok (v, next)
       → place_of_field cap s (n + 1) ≡ next
   unfolding place_of_field number_at
   place-on n at low high r v next e f = rw (add-one n, e, (within-range cap s at low high r v next f).2)
 
   -- past the sagas: k fields on, and k sagas more
-  place-sagas : (k n at sum : ℕ) (t : Tables) (v p : ℕ) → at ≤ length s → place_of_field cap s n ≡ at → (sagas_from cap s k at sum t).answer ≡ Value v p
+  place-sagas : (k n at sum : ℕ) (t : Tables) (v p : ℕ) → at ≤ length s → place_of_field cap s n ≡ at → (sagas_from cap s k at sum t).answer ≡ Ok (v, p)
       → (place_of_field cap s (n + k) ≡ p) × ((sagas_from cap s k at sum t).tables.sagas ≡ t.sagas + k)
   unfolding sagas_from
-  place-sagas zero n at sum t v p b e f = let q : at ≡ p = cc in let z : n + 0 ≡ n = omega arith in (ap (place_of_field cap s) z ∙ e ∙ q, omega arith)
+  place-sagas zero n at sum t v p b e f = let q = (value-parts f).1 in let z : n + 0 ≡ n = omega arith in (ap (place_of_field cap s) z ∙ e ∙ q, omega arith)
   place-sagas (suc k) n at sum t v p b e f =
       by-saga cap s k at sum t
-      (λ (r : SagasRead). r.answer ≡ Value v p → (place_of_field cap s (n + suc k) ≡ p) × (r.tables.sagas ≡ t.sagas + suc k)) b
+      (λ (r : SagasRead). r.answer ≡ Ok (v, p) → (place_of_field cap s (n + suc k) ≡ p) × (r.tables.sagas ≡ t.sagas + suc k)) b
       (λ r q g. no_value)
       (λ m next g l h.
       let i = place-sagas k (n + 1) next (sum + 2 * m) (with_saga t m) v p (within-next cap s at 1 most_steps BadCount m next g).1
@@ -98,30 +95,30 @@ module _ (cap : ℕ) (s : List ℕ) where
       f
 
   -- the entries leave the sagas
-  entries-sagas : (x n k at : ℕ) (t : Tables) → at ≤ length s → (dependencies_from cap s n k at t).answer ≡ Read x
+  entries-sagas : (x n k at : ℕ) (t : Tables) → at ≤ length s → (dependencies_from cap s n k at t).answer ≡ Ok x
       → (dependencies_from cap s n k at t).tables.sagas ≡ t.sagas
   unfolding dependencies_from
   entries-sagas x n zero at t b = λ e. refl
   entries-sagas x n (suc k) at t b =
-      by-entry cap s n k at t (λ (r : TablesRead). r.answer ≡ Read x → r.tables.sagas ≡ t.sagas) b (λ r p f. no_read)
+      by-entry cap s n k at t (λ (r : TablesRead). r.answer ≡ Ok x → r.tables.sagas ≡ t.sagas) b (λ r p f. no_read)
       (λ d b kind next f l h. entries-sagas x n k next (with_entry t d b kind) l)
 
 -- ---- the tables are as with circles permitted, with one test more
 
-answer-cases : {A : Type 0} (x : TablesAnswer) → ((at : ℕ) → x ≡ Read at → A) → ((r : Refusal) (p : ℕ) → x ≡ Refused r p → A) → A
-answer-cases (Read at) f g = f at refl
-answer-cases (Refused r p) f g = g r p refl
+answer-cases : {A : Type 0} (x : TablesAnswer) → ((at : ℕ) → x ≡ Ok at → A) → ((r : Refusal) (p : ℕ) → x ≡ fault r p → A) → A
+answer-cases (Ok at) f g = f at refl
+answer-cases (Err why) f g = g why.refusal why.place refl
 
-read_of : (x : TablesAnswer) → is_read x ≡ true → (at : ℕ) × (x ≡ Read at)
-read_of (Read at) h = (at, refl)
-read_of (Refused r p) h = absurd (false≢true h)
+read_of : (x : TablesAnswer) → is_read x ≡ true → (at : ℕ) × (x ≡ Ok at)
+read_of (Ok at) h = (at, refl)
+read_of (Err f) h = absurd (false≢true h)
 
-counted-cases : {A : Type 0} (c : Field) → ((v next : ℕ) → c ≡ Value v next → A) → ((r : Refusal) (p : ℕ) → c ≡ Fault r p → A) → A
-counted-cases (Value v next) f g = f v next refl
-counted-cases (Fault r p) f g = g r p refl
+counted-cases : {A : Type 0} (c : Field) → ((v next : ℕ) → c ≡ Ok (v, next) → A) → ((r : Refusal) (p : ℕ) → c ≡ fault r p → A) → A
+counted-cases (Ok (v, next)) f g = f v next refl
+counted-cases (Err why) f g = g why.refusal why.place refl
 
 -- the first field is the edition
-first_on : (ed : Edition) (s : List ℕ) (e x : ℕ) → edition_field ed s ≡ Value e x → place_of_field (ceiling_of ed) s 1 ≡ x
+first_on : (ed : Edition) (s : List ℕ) (e x : ℕ) → edition_field ed s ≡ Ok (e, x) → place_of_field (ceiling_of ed) s 1 ≡ x
 unfolding place_of_field
 first_on ed s e x f =
     let first = within-range edition_ceiling s 0 (edition_number ed) (edition_number ed) BadEdition e x f in
@@ -137,7 +134,7 @@ module _ (ed : Edition) (s : List ℕ) where
   tested-no r p = refl
 
   -- what was read is tested at the place y, which is the count's
-  tested-read : (y : ℕ) (read : TablesRead) → ((x : ℕ) → read.answer ≡ Read x → y ≡ count_place ed s read.tables)
+  tested-read : (y : ℕ) (read : TablesRead) → ((x : ℕ) → read.answer ≡ Ok x → y ≡ count_place ed s read.tables)
       → Tested (unless_circle Forbidden y read) (unless_circle Permitted y read)
   unfolding unless_circle
   tested-read y read h =
@@ -182,9 +179,9 @@ module _ (ed : Edition) (s : List ℕ) where
 
   -- by the test: refused at the count, or as with circles permitted
   by-test : (Q : TablesRead → Type 0)
-      → ((at : ℕ) → (tables_by Permitted ed s).answer ≡ Read at → has_circle (tables_by Permitted ed s).tables ≡ true
+      → ((at : ℕ) → (tables_by Permitted ed s).answer ≡ Ok at → has_circle (tables_by Permitted ed s).tables ≡ true
       → Q (refused NeverMoves (count_place ed s (tables_by Permitted ed s).tables)))
-      → (((at : ℕ) → (tables_by Permitted ed s).answer ≡ Read at → has_circle (tables_by Permitted ed s).tables ≡ false) → Q (tables_by Permitted ed s))
+      → (((at : ℕ) → (tables_by Permitted ed s).answer ≡ Ok at → has_circle (tables_by Permitted ed s).tables ≡ false) → Q (tables_by Permitted ed s))
       → Q (tables_by Forbidden ed s)
   unfolding unless_circle
   by-test Q yes-stuck no-stuck =
@@ -197,11 +194,11 @@ module _ (ed : Edition) (s : List ℕ) where
       rw h (yes-stuck r.0 r.1 both.1))
       (λ h. rw h (no-stuck (λ x f. and-rest (is_read permitted.answer) (has_circle permitted.tables) h (ap is_read f)))))
 
-  same_place : (p q : ℕ) → Refused NeverMoves p ≡ Refused NeverMoves q → q ≡ p
-  same_place p q e = cc
+  same_place : (p q : ℕ) → fault {A = ℕ} NeverMoves p ≡ fault NeverMoves q → q ≡ p
+  same_place p q e = sym (fault-parts e).1
 
   -- with circles permitted no tables are refused by 21
-  permitted-not : {A : Type 0} (p : ℕ) → (tables_by Permitted ed s).answer ≡ Refused NeverMoves p → A
+  permitted-not : {A : Type 0} (p : ℕ) → (tables_by Permitted ed s).answer ≡ fault NeverMoves p → A
   permitted-not p e =
       ⊎_elim
       (λ f. absurd (omega (arith, f.high)))
@@ -216,12 +213,12 @@ module _ (ed : Edition) (s : List ℕ) where
   circles-refused =
       record {
         refused = λ p. (
-          by-test (λ (r : TablesRead). r.answer ≡ Refused NeverMoves p → Round p)
+          by-test (λ (r : TablesRead). r.answer ≡ fault NeverMoves p → Round p)
               (λ at e h f. ((at, e), (stuck-round (tables_by Permitted ed s).tables (accepted-well Permitted ed s at e) h, same_place _ p f)))
               (λ h f. permitted-not p f),
           λ g.
-              by-test (λ (r : TablesRead). r.answer ≡ Refused NeverMoves p)
-              (λ at e h. ap (λ (n : ℕ). Refused NeverMoves n) (sym g.1.1))
+              by-test (λ (r : TablesRead). r.answer ≡ fault NeverMoves p)
+              (λ at e h. ap (λ (n : ℕ). fault NeverMoves n) (sym g.1.1))
               (λ h.
               clash (round-stuck (tables_by Permitted ed s).tables (accepted-well Permitted ed s g.0.0 g.0.1) g.1.0) (h g.0.0 g.0.1)),
         );
@@ -229,11 +226,11 @@ module _ (ed : Edition) (s : List ℕ) where
         no_circle = λ at e no.
             by-test (λ (r : TablesRead). r ≡ tables_by Permitted ed s)
             (λ x f h. absurd (no (stuck-round (tables_by Permitted ed s).tables (accepted-well Permitted ed s at e) h))) (λ h. refl);
-        accepted = λ at. by-test (λ (x : TablesRead). x.answer ≡ Read at → tables_by Permitted ed s ≡ x) (λ x f h. no_read) (λ h f. refl);
+        accepted = λ at. by-test (λ (x : TablesRead). x.answer ≡ Ok at → tables_by Permitted ed s ≡ x) (λ x f h. no_read) (λ h f. refl);
       }
     where
       Round : ℕ → Type 0
-      Round p = ((at : ℕ) × ((tables_by Permitted ed s).answer ≡ Read at)) × (GoesRound (tables_by Permitted ed s).tables × (p ≡ count_place ed s (tables_by Permitted ed s).tables))
+      Round p = ((at : ℕ) × ((tables_by Permitted ed s).answer ≡ Ok at)) × (GoesRound (tables_by Permitted ed s).tables × (p ≡ count_place ed s (tables_by Permitted ed s).tables))
 
 pub never-moves-refused : NeverMovesRefused
 never-moves-refused ed s = circles-refused ed s

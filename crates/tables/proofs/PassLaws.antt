@@ -9,28 +9,27 @@ use Rattle.laws.proofs.ListLaws.{take-stored}
 use Rattle.terms.specs.Limits.{most_dependencies, most_objects, most_sagas, most_steps, most_transactions}
 use Rattle.terms.specs.declared.Refusal.TheVariants.{BadCount, BadEdition}
 use Rattle.number.specs.declared.Edition.{Edition}
-use Rattle.number.specs.Number.{ceiling_of, edition_number, no_fields, row_at}
-use Rattle.number.specs.declared.Field.TheVariants.{Value}
+use Rattle.number.specs.Number.{ceiling_of, edition_number, no_fields, row_at, fault}
 use Rattle.number.proofs.FieldLaws.{by_field, within-next, within-range}
 use Rattle.number.proofs.Passing.{Passes, join, pass-within}
 use Rattle.number.proofs.RowLaws.{row-fields, row-places}
 use Rattle.number.proofs.Spelling.{no_value, number_same}
 use Rattle.number.proofs.EditionLaws.{ceiling-low, edition-low}
-use Rattle.tables.specs.Dependencies.{entry_holds, kind_number, kind_of}
-use Rattle.tables.specs.Reading.{dependencies_from, empty_tables, entry_at, sagas_from, tables_by, with_counts, with_entry, with_saga, edition_ceiling}
+use Rattle.tables.specs.Dependencies.{entry_holds, kind_of}
+use Rattle.tables.specs.Reading.{dependencies_from, empty_tables, entry_at, sagas_from, tables_by, with_counts, with_entry, with_saga, edition_ceiling, EntryRead, declares}
 use Rattle.tables.specs.Sorts.{sagas_of}
 use Rattle.tables.specs.Written.{declared_of, entries_fields, entry_fields, table_fields}
 use Rattle.tables.specs.declared.Circles.{Circles}
 use Rattle.tables.specs.declared.Dependency.{Dependency}
-use Rattle.tables.specs.declared.Entry.{Entry}
-use Rattle.tables.specs.declared.Entry.TheVariants.{Declares, Stops}
 use Rattle.tables.specs.declared.SagasRead.{SagasRead}
 use Rattle.tables.specs.declared.Tables.{Tables}
-use Rattle.tables.specs.declared.TablesAnswer.TheVariants.{Read}
 use Rattle.tables.specs.declared.TablesRead.{TablesRead}
 use Rattle.tables.proofs.DependencyLaws.{on-allowed, on-holds}
 use Rattle.tables.proofs.KindLaws.{kind-back}
 use Rattle.tables.proofs.WayLaws.{by-circle, by-entry, by-rest, by-saga, by-tables, no_read, sagas-next}
+use Rattle.std.specs.Prelude.{Ok}
+use Rattle.tables.proofs.ReadingLaws.{entry-parts}
+use Rattle.number.proofs.Spelling.{value-parts}
 
 -- ---- the steps of the sagas
 
@@ -85,14 +84,14 @@ same-order : {e e' g g' q q' m m' k k' : ℕ} {vs vs' ws ws' : List ℕ} → e �
 same-order a b c d f h i = cc
 
 module _ (cap : ℕ) (s : List ℕ) where
-  pub pass-sagas : (k at sum : ℕ) (t : Tables) (v p : ℕ) → at ≤ length s → t.sagas + k ≤ length t.steps → (sagas_from cap s k at sum t).answer ≡ Value v p
+  pub pass-sagas : (k at sum : ℕ) (t : Tables) (v p : ℕ) → at ≤ length s → t.sagas + k ≤ length t.steps → (sagas_from cap s k at sum t).answer ≡ Ok (v, p)
       → (vs : List ℕ) × Passes cap s at vs p × Steps k vs t (sagas_from cap s k at sum t).tables
   unfolding sagas_from
   pass-sagas zero at sum t v p b room e =
-      let q : at ≡ p = cc in
+      let q = (value-parts e).1 in
       ([], subst (Passes cap s at []) q Passes.here, record { counted = omega arith; steps = sym (append-nil (sagas_of t)); same_count = refl; same_entries = refl })
   pass-sagas (suc k) at sum t v p b room e =
-      by-saga cap s k at sum t (λ (r : SagasRead). r.answer ≡ Value v p → (vs : List ℕ) × Passes cap s at vs p × Steps (suc k) vs t r.tables) b
+      by-saga cap s k at sum t (λ (r : SagasRead). r.answer ≡ Ok (v, p) → (vs : List ℕ) × Passes cap s at vs p × Steps (suc k) vs t r.tables) b
       (λ r q f. no_value)
       (λ n next f l g.
       let j = pass-sagas k next (sum + 2 * n) (with_saga t n) v p (within-next cap s at 1 most_steps BadCount n next f).1 (omega (arith, length-set t.steps t.sagas n)) g in
@@ -110,21 +109,18 @@ module _ (cap : ℕ) (s : List ℕ) where
 
   -- ---- one entry
 
-  entry-fields : (at d b kind next : ℕ) → entry_at cap s at ≡ Declares d b kind next → Passes cap s at (d ∷ b ∷ kind ∷ []) next
+  entry-fields : (at d b kind next : ℕ) → entry_at cap s at ≡ declares d b kind next → Passes cap s at (d ∷ b ∷ kind ∷ []) next
   unfolding entry_at
   entry-fields at d b kind next e =
       let row = row_at cap s 3 at in
-      by_field row.end Stops (λ n p. Declares (get_or row.fields 0 0) (get_or row.fields 1 0) (get_or row.fields 2 0) p)
-      (λ (x : Entry). x ≡ Declares d b kind next → Passes cap s at (d ∷ b ∷ kind ∷ []) next)
+      by_field row.end fault (λ n p. declares (get_or row.fields 0 0) (get_or row.fields 1 0) (get_or row.fields 2 0) p)
+      (λ (x : EntryRead). x ≡ declares d b kind next → Passes cap s at (d ∷ b ∷ kind ∷ []) next)
       (λ n p f h.
-      let q : p ≡ next = cc in
-      let d-is : get_or row.fields 0 0 ≡ d = cc in
-      let b-is : get_or row.fields 1 0 ≡ b = cc in
-      let kind-is : get_or row.fields 2 0 ≡ kind = cc in
+      let same = entry-parts h in
       let w = row-fields cap s 3 0 at no_fields n p (omega arith) f in
       let all = row-places cap s 3 at in
-      let fields : w.0 ≡ d ∷ b ∷ kind ∷ [] = sym w.2 ∙ ap (take 3) all ∙ rw (d-is, b-is, kind-is) refl in
-      subst (λ (l : List ℕ). Passes cap s at l next) fields (subst (Passes cap s at w.0) q w.1))
+      let fields : w.0 ≡ d ∷ b ∷ kind ∷ [] = sym w.2 ∙ ap (take 3) all ∙ rw (same.0, same.1, same.2) refl in
+      subst (λ (l : List ℕ). Passes cap s at l next) fields (subst (Passes cap s at w.0) same.3 w.1))
       (λ r p f h. let z : ◌≡◌ {A = ℕ} 0 1 = cc in absurd (omega arith))
       e
 
@@ -133,7 +129,7 @@ module _ (cap : ℕ) (s : List ℕ) where
       let a = on-allowed t n d b kind (on-holds t n d b kind e).0 in ap (λ (k : ℕ). d ∷ b ∷ k ∷ []) (kind-back kind a.kind_low a.kind_high)
 
   module _ (x : ℕ) where
-    pass-entries : (n k at : ℕ) (t : Tables) → at ≤ length s → t.declared + k ≤ length t.dependencies → (dependencies_from cap s n k at t).answer ≡ Read x
+    pass-entries : (n k at : ℕ) (t : Tables) → at ≤ length s → t.declared + k ≤ length t.dependencies → (dependencies_from cap s n k at t).answer ≡ Ok x
         → (vs : List ℕ) × Passes cap s at vs x × Entries k vs t (dependencies_from cap s n k at t).tables
     unfolding dependencies_from
     pass-entries n zero at t b room e =
@@ -143,7 +139,7 @@ module _ (cap : ℕ) (s : List ℕ) where
           record { counted = omega arith; entries = sym (append-nil (entries_fields (declared_of t))); same-sagas = refl; same-steps = refl; same-plain = refl; same-objects = refl },
         )
     pass-entries n (suc k) at t b room e =
-        by-entry cap s n k at t (λ (r : TablesRead). r.answer ≡ Read x → (vs : List ℕ) × Passes cap s at vs x × Entries (suc k) vs t r.tables) b (λ r p f. no_read)
+        by-entry cap s n k at t (λ (r : TablesRead). r.answer ≡ Ok x → (vs : List ℕ) × Passes cap s at vs x × Entries (suc k) vs t r.tables) b (λ r p f. no_read)
         (λ d base kind next f l h g.
         let new : Dependency = record { dependent = d; base = base; kind = kind_of kind } in
         let j = pass-entries n k next (with_entry t d base kind) l (omega (arith, length-set t.dependencies t.declared new)) g in
@@ -169,7 +165,7 @@ module _ (cap : ℕ) (s : List ℕ) where
 
 -- the tables of a book, where they are accepted
 module _ (ed : Edition) (s : List ℕ) (x : ℕ) where
-  pub tables-pass : (circles : Circles) → (tables_by circles ed s).answer ≡ Read x → Passes (ceiling_of ed) s 0 (table_fields ed (tables_by circles ed s).tables) x
+  pub tables-pass : (circles : Circles) → (tables_by circles ed s).answer ≡ Ok x → Passes (ceiling_of ed) s 0 (table_fields ed (tables_by circles ed s).tables) x
   tables-pass circles =
       by-tables ed s circles Goal (λ r p f. no_read)
       (λ e g u w sum z f₁ f₂ f₃.
@@ -206,4 +202,4 @@ module _ (ed : Edition) (s : List ℕ) (x : ℕ) where
       (join (ceiling_of ed) s (pass-within (ceiling_of ed) s b 0 most_dependencies BadCount k c h₃) declared.1)))))))))
     where
       Goal : TablesRead → Type 0
-      Goal r = r.answer ≡ Read x → Passes (ceiling_of ed) s 0 (table_fields ed r.tables) x
+      Goal r = r.answer ≡ Ok x → Passes (ceiling_of ed) s 0 (table_fields ed r.tables) x

@@ -1,30 +1,38 @@
 -- Reading the tables, in the code's own terms: one law for each way to go on or to stop.
 use Prim.Native.Nat.{ℕ, suc, ◌+◌, ◌-◌, ◌*◌, ◌≤◌, ◌<◌}
-use mathlib.Core.Path.{◌≡◌, refl, sym, ap, ◌∙◌}
-use mathlib.Core.Bool.{Bool, true, false}
+use mathlib.Core.Path.{◌≡◌, refl, ap}
+use mathlib.Core.Bool.{true, false}
 use mathlib.Core.List.{List}
-use lib.ListN.{get_or, set}
+use lib.ListN.{set}
 use borrow.Author.Tests.{lt-ltb, le-ltb}
 use Rattle.terms.specs.Limits.{most_sagas, most_steps, most_transactions, most_objects, most_dependencies}
 use Rattle.terms.specs.declared.Refusal.{Refusal}
-use Rattle.terms.specs.declared.Refusal.TheVariants.{BadCount, BadDependency, NeverMoves}
+use Rattle.terms.specs.declared.Refusal.TheVariants.{BadCount, BadDependency}
 use Rattle.number.specs.declared.Edition.{Edition}
-use Rattle.number.specs.Number.{ceiling_of, number_within, row_at}
-use Rattle.number.specs.declared.Row.{Row}
+use Rattle.number.specs.Number.{ceiling_of, number_within, fault}
 use Rattle.tables.specs.declared.Circles.{Circles}
-use Rattle.tables.specs.declared.Circles.TheVariants.{Forbidden, Permitted}
 use Rattle.tables.specs.declared.Tables.{Tables}
 use Rattle.tables.specs.declared.Kind.{Kind}
-use Rattle.number.specs.declared.Field.{Field}
-use Rattle.number.specs.declared.Field.TheVariants.{Value, Fault}
 use Rattle.tables.specs.declared.SagasRead.{SagasRead}
-use Rattle.tables.specs.declared.Entry.{Entry}
-use Rattle.tables.specs.declared.Entry.TheVariants.{Declares, Stops}
-use Rattle.tables.specs.declared.TablesAnswer.TheVariants.{Read, Refused}
-use Rattle.tables.specs.declared.TablesRead.{TablesRead}
-use Rattle.tables.specs.Circles.{has_circle}
 use Rattle.tables.specs.Dependencies.{kind_of, entry_holds}
-use Rattle.tables.specs.Reading.{empty_tables, sagas_stopped, sagas_from, refused, entry_at, refused_entry, refused_field, dependencies_from, with_counts, unless_circle, rest_from, edition_field, tables_by}
+use Rattle.tables.specs.Reading.{empty_tables, sagas_stopped, sagas_from, refused, entry_at, dependencies_from, with_counts, unless_circle, rest_from, edition_field, tables_by, EntryRead, declares}
+use Rattle.std.specs.Prelude.{Ok, Err}
+use Rattle.tables.specs.declared.Entry.{Entry}
+
+-- ---- two entries that are equal have equal parts
+
+abbrev entry_in : Entry × ℕ → EntryRead → Entry × ℕ
+entry_in other (Ok x) = x
+entry_in other (Err f) = other
+
+pub entry-parts : {d b k p e c l q : ℕ} → declares d b k p ≡ declares e c l q → (d ≡ e) × (b ≡ c) × (k ≡ l) × (p ≡ q)
+entry-parts {d = d} {b = b} {k = k} {p = p} h =
+    let x = ap (entry_in (record { dependent = d; base = b; kind = k }, p)) h in (
+      ap (λ (y : Entry × ℕ). y.0.dependent) x,
+      ap (λ (y : Entry × ℕ). y.0.base) x,
+      ap (λ (y : Entry × ℕ). y.0.kind) x,
+      ap (λ (y : Entry × ℕ). y.1) x,
+    )
 
 -- ---- the sagas
 
@@ -38,16 +46,16 @@ unfolding empty_tables
 sagas-none = refl
 
 module _ (cap : ℕ) (s : List ℕ) (at sum : ℕ) (t : Tables) where
-  pub sagas-end : (k : ℕ) → k ≡ 0 → sagas_from cap s k at sum t ≡ record { answer = Value sum at; tables = t }
+  pub sagas-end : (k : ℕ) → k ≡ 0 → sagas_from cap s k at sum t ≡ record { answer = Ok (sum, at); tables = t }
   unfolding sagas_from
   sagas-end k e = rw e
 
   module _ (k j : ℕ) (e : k ≡ suc j) where
-    pub sagas-stop : (r : Refusal) (p : ℕ) → number_within cap s at 1 most_steps BadCount ≡ Fault r p → sagas_from cap s k at sum t ≡ sagas_stopped r p
+    pub sagas-stop : (r : Refusal) (p : ℕ) → number_within cap s at 1 most_steps BadCount ≡ fault r p → sagas_from cap s k at sum t ≡ sagas_stopped r p
     unfolding sagas_from
     sagas-stop r p f = rw (e, f)
 
-    module _ (n next : ℕ) (f : number_within cap s at 1 most_steps BadCount ≡ Value n next) where
+    module _ (n next : ℕ) (f : number_within cap s at 1 most_steps BadCount ≡ Ok (n, next)) where
       pub sagas-large : most_transactions < sum + 2 * n → sagas_from cap s k at sum t ≡ sagas_stopped BadCount at
       unfolding sagas_from
       sagas-large h = rw (e, f, lt-ltb most_transactions (sum + 2 * n) h)
@@ -57,18 +65,6 @@ module _ (cap : ℕ) (s : List ℕ) (at sum : ℕ) (t : Tables) where
       unfolding sagas_from
       sagas-more i q h =
           rw (e, f, le-ltb most_transactions (sum + 2 * n) h) (ap (λ (x : ℕ). sagas_from cap s j next (sum + 2 * n) (with_saga_at t x n)) q)
-
--- ---- an entry's three fields
-
-module _ (cap : ℕ) (s : List ℕ) (at : ℕ) (row : Row) (read : row ≡ row_at cap s 3 at) where
-  pub entry-stops : (r : Refusal) (p : ℕ) → row.end ≡ Fault r p → Stops r p ≡ entry_at cap s at
-  unfolding entry_at
-  entry-stops r p e = rw (← read, e)
-
-  pub entry-declares : (n next : ℕ) → row.end ≡ Value n next
-      → Declares (get_or row.fields 0 0) (get_or row.fields 1 0) (get_or row.fields 2 0) next ≡ entry_at cap s at
-  unfolding entry_at
-  entry-declares n next e = rw (← read, e)
 
 -- ---- the dependencies
 
@@ -84,16 +80,16 @@ with_entry_at t i d b k =
     }
 
 module _ (cap : ℕ) (s : List ℕ) (n at : ℕ) (t : Tables) where
-  pub entries-end : (k : ℕ) → k ≡ 0 → dependencies_from cap s n k at t ≡ record { answer = Read at; tables = t }
+  pub entries-end : (k : ℕ) → k ≡ 0 → dependencies_from cap s n k at t ≡ record { answer = Ok at; tables = t }
   unfolding dependencies_from
   entries-end k e = rw e
 
   module _ (k j : ℕ) (e : k ≡ suc j) where
-    pub entries-stop : (x : Entry) (r : Refusal) (p : ℕ) → x ≡ entry_at cap s at → x ≡ Stops r p → dependencies_from cap s n k at t ≡ refused_entry x
-    unfolding dependencies_from refused_entry
-    entries-stop x r p q f = rw (e, ← q, f)
+    pub entries-stop : (r : Refusal) (p : ℕ) → entry_at cap s at ≡ fault r p → dependencies_from cap s n k at t ≡ refused r p
+    unfolding dependencies_from
+    entries-stop r p f = rw (e, f)
 
-    module _ (d b kind next : ℕ) (f : entry_at cap s at ≡ Declares d b kind next) where
+    module _ (d b kind next : ℕ) (f : entry_at cap s at ≡ declares d b kind next) where
       -- refused at the place p, which is the entry's own
       pub entries-bad : (p : ℕ) → entry_holds t n d b kind ≡ false → p ≡ at → dependencies_from cap s n k at t ≡ refused BadDependency p
       unfolding dependencies_from
@@ -105,68 +101,18 @@ module _ (cap : ℕ) (s : List ℕ) (n at : ℕ) (t : Tables) where
       entries-more i m q g h =
           rw (e, f, h, g) (ap (λ (x : ℕ). dependencies_from cap s n j next (with_entry_at t x d b (kind_of kind))) q)
 
--- ---- tables that were read, judged as a whole
-
-module _ (circles : Circles) (at : ℕ) (read : TablesRead) where
-  pub circle-permitted : circles ≡ Permitted → read ≡ unless_circle circles at read
-  unfolding unless_circle
-  circle-permitted e = rw e
-
-  module _ (e : circles ≡ Forbidden) where
-    pub circle-refused : (r : Refusal) (p : ℕ) → read.answer ≡ Refused r p → read ≡ unless_circle circles at read
-    unfolding unless_circle
-    circle-refused r p a = rw (e, a)
-
-    -- b is what the test of their entries said
-    module _ (x : ℕ) (a : read.answer ≡ Read x) {b : Bool} (told : b ≡ has_circle read.tables) where
-      pub circle-yes : b ≡ true → refused NeverMoves at ≡ unless_circle circles at read
-      unfolding unless_circle
-      circle-yes h = rw (e, a, sym told ∙ h)
-
-      pub circle-no : b ≡ false → read ≡ unless_circle circles at read
-      unfolding unless_circle
-      circle-no h = rw (e, a, sym told ∙ h)
-
--- ---- the whole: one law for each place where the chain can stop
+-- ---- the whole: as it goes on from field to field
 
 module _ (circles : Circles) (cap : ℕ) (s : List ℕ) (at sum : ℕ) (t : Tables) where
-  pub rest1 : (c : Field) (r : Refusal) (p : ℕ) → c ≡ number_within cap s at 0 (most_transactions - sum) BadCount → c ≡ Fault r p
-      → refused_field c ≡ rest_from circles cap s at sum t
-  unfolding rest_from refused_field
-  rest1 c r p e f = rw (← e, f)
-
-  module _ (v x : ℕ) (a : number_within cap s at 0 (most_transactions - sum) BadCount ≡ Value v x) where
-    pub rest2 : (c : Field) (r : Refusal) (p : ℕ) → c ≡ number_within cap s x 0 most_objects BadCount → c ≡ Fault r p
-        → refused_field c ≡ rest_from circles cap s at sum t
-    unfolding rest_from refused_field
-    rest2 c r p e f = rw (a, ← e, f)
-
-    module _ (m y : ℕ) (b : number_within cap s x 0 most_objects BadCount ≡ Value m y) where
-      pub rest3 : (c : Field) (r : Refusal) (p : ℕ) → c ≡ number_within cap s y 0 most_dependencies BadCount → c ≡ Fault r p
-          → refused_field c ≡ rest_from circles cap s at sum t
-      unfolding rest_from refused_field
-      rest3 c r p e f = rw (a, b, ← e, f)
-
-      pub rest4 : (k z : ℕ) → number_within cap s y 0 most_dependencies BadCount ≡ Value k z
-          → unless_circle circles y (dependencies_from cap s (sum + v) k z (with_counts t v m)) ≡ rest_from circles cap s at sum t
-      unfolding rest_from
-      rest4 k z e = rw (a, b, e)
+  pub rest4 : (v x : ℕ) → number_within cap s at 0 (most_transactions - sum) BadCount ≡ Ok (v, x) → (m y : ℕ) → number_within cap s x 0 most_objects BadCount ≡ Ok (m, y)
+      → (k z : ℕ) → number_within cap s y 0 most_dependencies BadCount ≡ Ok (k, z)
+      → unless_circle circles y (dependencies_from cap s (sum + v) k z (with_counts t v m)) ≡ rest_from circles cap s at sum t
+  unfolding rest_from
+  rest4 v x a m y b k z e = rw (a, b, e)
 
 module _ (circles : Circles) (ed : Edition) (s : List ℕ) where
-  pub all1 : (c : Field) (r : Refusal) (p : ℕ) → c ≡ edition_field ed s → c ≡ Fault r p → refused_field c ≡ tables_by circles ed s
-  unfolding tables_by refused_field
-  all1 c r p e f = rw (← e, f)
-
-  module _ (v x : ℕ) (a : edition_field ed s ≡ Value v x) where
-    pub all2 : (c : Field) (r : Refusal) (p : ℕ) → c ≡ number_within (ceiling_of ed) s x 0 most_sagas BadCount → c ≡ Fault r p → refused_field c ≡ tables_by circles ed s
-    unfolding tables_by refused_field
-    all2 c r p e f = rw (a, ← e, f)
-
-    module _ (g y : ℕ) (b : number_within (ceiling_of ed) s x 0 most_sagas BadCount ≡ Value g y) (read : SagasRead) (q : read ≡ sagas_from (ceiling_of ed) s g y 0 empty_tables) where
-      pub all3 : (r : Refusal) (p : ℕ) → read.answer ≡ Fault r p → refused_field read.answer ≡ tables_by circles ed s
-      unfolding tables_by refused_field
-      all3 r p f = rw (a, b, ← q, f)
-
-      pub all4 : (sum z : ℕ) → read.answer ≡ Value sum z → rest_from circles (ceiling_of ed) s z sum read.tables ≡ tables_by circles ed s
-      unfolding tables_by
-      all4 sum z f = rw (a, b, ← q, f)
+  pub all4 : (v x : ℕ) → edition_field ed s ≡ Ok (v, x) → (g y : ℕ) → number_within (ceiling_of ed) s x 0 most_sagas BadCount ≡ Ok (g, y)
+      → (read : SagasRead) → read ≡ sagas_from (ceiling_of ed) s g y 0 empty_tables → (sum z : ℕ) → read.answer ≡ Ok (sum, z)
+      → rest_from circles (ceiling_of ed) s z sum read.tables ≡ tables_by circles ed s
+  unfolding tables_by
+  all4 v x a g y b read q sum z f = rw (a, b, ← q, f)

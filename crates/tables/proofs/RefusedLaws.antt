@@ -9,26 +9,26 @@ use Rattle.terms.specs.Limits.{most_sagas, most_objects, most_dependencies}
 use Rattle.terms.specs.declared.Refusal.{Refusal}
 use Rattle.terms.specs.declared.Refusal.TheVariants.{BadCount, NeverMoves}
 use Rattle.number.specs.declared.Edition.{Edition}
-use Rattle.number.specs.Number.{ceiling_of}
+use Rattle.number.specs.Number.{ceiling_of, fault}
 use Rattle.number.proofs.FieldLaws.{within-next}
 use Rattle.tables.specs.declared.Circles.{Circles}
 use Rattle.tables.specs.declared.Circles.TheVariants.{Forbidden}
 use Rattle.tables.specs.declared.Tables.{Tables}
-use Rattle.tables.specs.declared.TablesAnswer.TheVariants.{Refused}
 use Rattle.tables.specs.declared.TablesRead.{TablesRead}
 use Rattle.tables.specs.Reading.{empty_tables, sagas_from, refused, with_entry, dependencies_from, with_counts, tables_by}
 use Rattle.tables.proofs.FaultLaws.{Faulty}
 use Rattle.tables.proofs.WayLaws.{sagas-next, by-circle, by-entry, by-rest, by-tables}
+use Rattle.number.proofs.Spelling.{fault-parts}
 
 module _ (circles : Circles) (ed : Edition) (s : List ℕ) (r : Refusal) (p : ℕ) where
   abbrev Blank : TablesRead → Type 0
-  Blank x = x.answer ≡ Refused r p → (x.tables ≡ empty_tables) × (Faulty s r p ⊎ ((circles ≡ Forbidden) × (r ≡ NeverMoves) × (p ≤ length s)))
+  Blank x = x.answer ≡ fault r p → (x.tables ≡ empty_tables) × (Faulty s r p ⊎ ((circles ≡ Forbidden) × (r ≡ NeverMoves) × (p ≤ length s)))
 
   blank-stop : (q : Refusal) (at : ℕ) → Faulty s q at → Blank (refused q at)
-  blank-stop q at f e = let a : q ≡ r = cc in let b : at ≡ p = cc in (refl, inl (rw (← a, ← b) f))
+  blank-stop q at f e = let same = fault-parts e in (refl, inl (rw (← same.0, ← same.1) f))
 
   blank-circle : (at : ℕ) → at ≤ length s → circles ≡ Forbidden → Blank (refused NeverMoves at)
-  blank-circle at l f e = let a : NeverMoves ≡ r = cc in let b : at ≡ p = cc in (refl, inr (f, sym a, omega arith))
+  blank-circle at l f e = let same = fault-parts e in (refl, inr (f, sym same.0, omega (arith, same.1)))
 
   blank-entries : (n k at : ℕ) (t : Tables) → at ≤ length s → Blank (dependencies_from (ceiling_of ed) s n k at t)
   unfolding dependencies_from
@@ -47,8 +47,8 @@ module _ (circles : Circles) (ed : Edition) (s : List ℕ) (r : Refusal) (p : �
       by-circle circles v _ Blank (blank-circle v (within-next (ceiling_of ed) s u 0 most_objects BadCount m v h₂).1)
       (λ kept. blank-entries (sum + q) k w (with_counts t q m) (within-next (ceiling_of ed) s v 0 most_dependencies BadCount k w h₃).1)))
 
-  pub refused-empty : (tables_by circles ed s).answer ≡ Refused r p → (tables_by circles ed s).tables ≡ empty_tables
+  pub refused-empty : (tables_by circles ed s).answer ≡ fault r p → (tables_by circles ed s).tables ≡ empty_tables
   refused-empty e = (blank e).0
 
-  pub refused-number : (tables_by circles ed s).answer ≡ Refused r p → Faulty s r p ⊎ ((circles ≡ Forbidden) × (r ≡ NeverMoves) × (p ≤ length s))
+  pub refused-number : (tables_by circles ed s).answer ≡ fault r p → Faulty s r p ⊎ ((circles ≡ Forbidden) × (r ≡ NeverMoves) × (p ≤ length s))
   refused-number e = (blank e).1

@@ -9,7 +9,6 @@ use lib.Seq.{get_or-take}
 use borrow.Author.Tests.{lt-ltb, le-ltb}
 use Rattle.laws.proofs.Decisions.{by_place, lt-or}
 use Rattle.terms.specs.Limits.{most_steps}
-use Rattle.sets.specs.Reach.{at}
 use Rattle.tables.specs.Accepted.{Well}
 use Rattle.tables.specs.Sorts.{first_of, is_known, number_of_all, owned_by, place_of, sagas_of, sort_from, sort_of, steps_of}
 use Rattle.tables.specs.declared.Sort.{Sort}
@@ -112,24 +111,7 @@ by-list (n ∷ ns) f p t Q l own plain unknown =
     (λ b c. plain (omega arith) (omega arith))
     (λ b. unknown (omega arith))))
 
--- f and n are the first number and the steps of a saga
-pub record OfSaga (tables : Tables) (f n : ℕ) : Type 0 where
-  pub index : ℕ
-  pub first : f ≡ first_of tables index
-  pub steps : n ≡ steps_of tables index
-
--- what t is when this is its sort
-abbrev pub From : Tables → ℕ → Sort → Type 0
-From tables t (SagaItself f n) = OfSaga tables f n × (1 ≤ n) × (t ≡ f)
-From tables t (Step f n j) = OfSaga tables f n × (1 ≤ j) × (j ≤ n) × (t ≡ f + j)
-From tables t (Undo f n j) = OfSaga tables f n × (1 ≤ j) × (j < n) × (t ≡ f + (n + j))
-From tables t Plain = (owned_by (sagas_of tables) ≤ t) × (t < number_of_all tables)
-From tables t Unknown = number_of_all tables ≤ t
-
 module _ (tables : Tables) (t : ℕ) where
-  of-saga : (i : ℕ) → OfSaga tables (first_of tables i) (steps_of tables i)
-  of-saga i = record { index = i; first = refl; steps = refl }
-
   -- every number is an S, a step, an undo, a plain one or none
   pub by-sort : (Q : Sort → Type 0)
       → ((i : ℕ) → 1 ≤ steps_of tables i → t ≡ first_of tables i → Q (SagaItself (first_of tables i) (steps_of tables i)))
@@ -154,16 +136,6 @@ module _ (tables : Tables) (t : ℕ) where
       (λ b c. plain (omega arith) (omega arith))
       (λ h. unknown (omega arith))
 
-  pub sort-inv : (x : Sort) → sort_of tables t ≡ x → From tables t x
-  sort-inv x e =
-      subst (From tables t) e
-      (by-sort (From tables t)
-      (λ i l h. (of-saga i, l, h))
-      (λ i j a b h. (of-saga i, a, b, h))
-      (λ i j a b h. (of-saga i, a, b, h))
-      (λ a b. (a, b))
-      (λ h. h))
-
   pub known_small : is_known (sort_of tables t) ≡ true → t < number_of_all tables
   known_small =
       by-sort (λ (x : Sort). is_known x ≡ true → t < number_of_all tables)
@@ -172,7 +144,3 @@ module _ (tables : Tables) (t : ℕ) where
       (λ i j a b h e. omega (arith, owned-le tables i))
       (λ a b e. b)
       (λ h e. absurd (false≢true e))
-
-  pub small-known : t < number_of_all tables → is_known (sort_of tables t) ≡ true
-  small-known l =
-      by-sort (λ (x : Sort). is_known x ≡ true) (λ i a h. refl) (λ i j a b h. refl) (λ i j a b h. refl) (λ a b. refl) (λ h. absurd (omega arith))

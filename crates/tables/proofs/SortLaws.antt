@@ -5,15 +5,13 @@ use native.Mathlib.Omega.{arith}
 use mathlib.Core.Path.{◌≡◌, refl, sym, ap, ◌∙◌}
 use mathlib.Core.Bool.{cond, false}
 use mathlib.Core.List.{List, [], ◌∷◌, ◌++◌}
-use lib.ListN.{length, get_or, take, drop, length-take, drop_of_length-le, get_or-eq_default}
+use lib.ListN.{length, get_or, take, drop, length-take, drop_of_length-le}
 use lib.Seq.{drop-cons, get_or-take, take-suc, take_all}
 use lib.Dec.{ltb}
 use borrow.Author.Tests.{lt-ltb, le-ltb, le-leb, lt-leb, eq-eqb, ne_eqb}
 use Rattle.laws.proofs.Bools.{bool_cases}
 use Rattle.terms.specs.Limits.{most_sagas}
-use Rattle.terms.specs.declared.Saga.{Saga}
-use Rattle.sets.specs.Reach.{at}
-use Rattle.tables.specs.Sorts.{first_of, is_undo, owned_by, place_of, saga_of, sagas_of, sort_from, sort_of, steps_of}
+use Rattle.tables.specs.Sorts.{first_of, is_undo, owned_by, place_of, sagas_of, sort_from, sort_of, steps_of}
 use Rattle.tables.specs.declared.Sort.TheVariants.{Plain, Saga as SagaItself, Step, Undo, Unknown}
 use Rattle.tables.specs.declared.Tables.{Tables}
 
@@ -98,21 +96,6 @@ module _ (tables : Tables) (full : length tables.steps ≡ most_sagas) (i : ℕ)
       ∙ ap owned_by (take-suc (sagas_of tables) i 0 (listed tables full i h))
       ∙ owned-snoc (take i (sagas_of tables)) (steps_of tables i)
       ∙ ap (λ (n : ℕ). first_of tables i + 2 * n) (steps-at tables full i h))
-
-  -- saga i, of which the first number is f
-  pub saga-here : (f : ℕ) → f ≡ first_of tables i → i < min tables.sagas most_sagas
-      → ◌≡◌ {A = Saga} (record { first = f; steps = get_or tables.steps i 0 }) (saga_of tables i)
-  saga-here f e h = λ j. record { first = e j; steps = sym (steps-at tables full i h) j }
-
-  -- past the last saga
-  pub saga-past : (k f : ℕ) → f ≡ first_of tables k → min tables.sagas most_sagas ≤ k → k ≤ i
-      → ◌≡◌ {A = Saga} (record { first = f; steps = 0 }) (saga_of tables i)
-  saga-past k f e h l =
-      let a : length (sagas_of tables) ≤ k = all_listed tables full k h in
-      let b : length (sagas_of tables) ≤ i = omega arith in
-      let q : f ≡ first_of tables i = e ∙ ap owned_by (take_all k (sagas_of tables) a ∙ sym (take_all i (sagas_of tables) b)) in
-      let n : steps_of tables i ≡ 0 = get_or-eq_default (sagas_of tables) 0 {n = i} b in
-      λ j. record { first = q j; steps = sym n j }
 
 -- past the last saga stands what all sagas own
 pub owned-past : (tables : Tables) → length tables.steps ≡ most_sagas → first_of tables most_sagas ≡ owned_by (sagas_of tables)

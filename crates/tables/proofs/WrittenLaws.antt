@@ -18,7 +18,6 @@ use Rattle.terms.specs.declared.Refusal.TheVariants.{BadCount, BadEdition}
 use Rattle.sets.proofs.ReachLaws.{leads-more}
 use Rattle.number.specs.declared.Edition.{Edition}
 use Rattle.number.specs.Number.{ceiling_of, edition_number, row_from}
-use Rattle.number.specs.declared.Field.TheVariants.{Value}
 use Rattle.number.proofs.FieldLaws.{within_in}
 use Rattle.number.proofs.Passing.{Passes, pass-none, pass_same, split}
 use Rattle.number.proofs.Spelling.{number-next, number_same}
@@ -27,21 +26,20 @@ use Rattle.tables.specs.Accepted.{GoesRound, SameTables, Well}
 use Rattle.tables.specs.Circles.{begin_link, waits_by}
 use Rattle.tables.specs.Counts.{dependency_count}
 use Rattle.tables.specs.Dependencies.{allowed, dependency_at, entry_holds, kind_number, kind_of, no_dependency, rises_from, rises_to}
-use Rattle.tables.specs.Reading.{dependencies_from, empty_tables, entry_at, rest_from, sagas_from, tables_by, unless_circle, with_counts, with_entry, with_saga, edition_ceiling}
+use Rattle.tables.specs.Reading.{dependencies_from, empty_tables, entry_at, rest_from, sagas_from, tables_by, unless_circle, with_counts, with_entry, with_saga, edition_ceiling, declares}
 use Rattle.tables.specs.Sorts.{number_of_all, owned_by, sagas_of, sort_from, sort_of}
 use Rattle.tables.specs.Written.{declared_of, entries_fields, entry_fields, table_fields}
 use Rattle.tables.specs.declared.Circles.TheVariants.{Forbidden, Permitted}
 use Rattle.tables.specs.declared.Dependency.{Dependency}
-use Rattle.tables.specs.declared.Entry.TheVariants.{Declares}
 use Rattle.tables.specs.declared.Kind.{Kind}
 use Rattle.tables.specs.declared.Tables.{Tables}
-use Rattle.tables.specs.declared.TablesAnswer.TheVariants.{Read}
 use Rattle.tables.specs.declared.TablesRead.{TablesRead}
 use Rattle.tables.proofs.AcceptedWellHolds.{accepted-well}
 use Rattle.tables.proofs.DependencyLaws.{on-allowed}
 use Rattle.tables.proofs.KindLaws.{kind-again}
 use Rattle.tables.proofs.NeverMovesRefusedHolds.{never-moves-refused}
 use Rattle.tables.proofs.PassLaws.{empty-declared, empty-entries, empty-sagas, empty-steps, pass-sagas, tables-pass}
+use Rattle.std.specs.Prelude.{Ok}
 
 -- ---- what is counted is there
 
@@ -137,27 +135,27 @@ module _ (t : Tables) (well : Well t) (u : Tables) where
 module _ (cap : ℕ) (s : List ℕ) where
   sagas-accepted : (vs : List ℕ) (at sum p : ℕ) (t : Tables) → Passes cap s at vs p
       → ((i : ℕ) → i < length vs → (1 ≤ get_or vs i 0) × (get_or vs i 0 ≤ most_steps)) → sum + owned_by vs ≤ most_transactions
-      → (sagas_from cap s (length vs) at sum t).answer ≡ Value (sum + owned_by vs) p
+      → (sagas_from cap s (length vs) at sum t).answer ≡ Ok (sum + owned_by vs, p)
   unfolding sagas_from owned_by
-  sagas-accepted [] at sum p t w each room = let all : sum ≡ sum + 0 = omega arith in ap₂ Value all (pass-none cap s w)
+  sagas-accepted [] at sum p t w each room = let all : sum ≡ sum + 0 = omega arith in ap₂ (λ (v q : ℕ). Ok (v, q)) all (pass-none cap s w)
   sagas-accepted (n ∷ ns) at sum p t (Passes.on {p = next} f w) each room =
       let mine = each 0 (omega arith) in
       let all : sum + 2 * n + owned_by ns ≡ sum + (2 * n + owned_by ns) = omega arith in
       rw (within_in cap s at 1 most_steps BadCount n next f mine.0 mine.1, le-ltb most_transactions (sum + 2 * n) (omega arith))
-      (sagas-accepted ns next (sum + 2 * n) p (with_saga t n) w (λ i h. each (suc i) (omega arith)) (omega arith) ∙ ap (λ (v : ℕ). Value v p) all)
+      (sagas-accepted ns next (sum + 2 * n) p (with_saga t n) w (λ i h. each (suc i) (omega arith)) (omega arith) ∙ ap (λ (v : ℕ). Ok (v, p)) all)
 
-  entry-there : (at d b kind p : ℕ) → Passes cap s at (d ∷ b ∷ kind ∷ []) p → entry_at cap s at ≡ Declares d b kind p
+  entry-there : (at d b kind p : ℕ) → Passes cap s at (d ∷ b ∷ kind ∷ []) p → entry_at cap s at ≡ declares d b kind p
   unfolding entry_at row_from
   entry-there at d b kind p (Passes.on f₁ (Passes.on f₂ (Passes.on f₃ w))) = rw (f₁, f₂, f₃, pass-none cap s w) refl
 
   module _ (t : Tables) (well : Well t) where
     entries-accepted : (k i at p : ℕ) (u : Tables) → i + k ≡ t.declared → Partly t i u → Passes cap s at (entries_fields (drop i (declared_of t))) p
-        → (dependencies_from cap s (number_of_all t) k at u).answer ≡ Read p
+        → (dependencies_from cap s (number_of_all t) k at u).answer ≡ Ok p
     unfolding dependencies_from entries_fields
     entries-accepted zero i at p u e so w =
         let all : i ≡ length (declared_of t) = omega (arith, entries-many t well) in
         let none : drop i (declared_of t) ≡ [] = ap (λ (m : ℕ). drop m (declared_of t)) all ∙ drop-length (declared_of t) in
-        ap Read (pass-none cap s (subst (λ (l : List Dependency). Passes cap s at (entries_fields l) p) none w))
+        ap Ok (pass-none cap s (subst (λ (l : List Dependency). Passes cap s at (entries_fields l) p) none w))
     entries-accepted (suc k) i at p u e so w =
         let x = dependency_at t i in
         let low : i < t.declared = omega arith in
@@ -172,7 +170,7 @@ module _ (cap : ℕ) (s : List ℕ) where
 
     rest-accepted : (at x : ℕ) (u : Tables) → sagas_of u ≡ sagas_of t → u.declared ≡ 0 → length u.dependencies ≡ most_dependencies
         → Passes cap s at (t.plain ∷ t.objects ∷ t.declared ∷ entries_fields (declared_of t)) x
-        → (rest_from Permitted cap s at (owned_by (sagas_of t)) u).answer ≡ Read x
+        → (rest_from Permitted cap s at (owned_by (sagas_of t)) u).answer ≡ Ok x
     unfolding rest_from unless_circle
     rest-accepted at x u steps none room (Passes.on {p = a} f₁ (Passes.on {p = b} f₂ (Passes.on {p = c} f₃ w))) =
         let fits = well.fits in
@@ -186,7 +184,7 @@ module _ (cap : ℕ) (s : List ℕ) where
 
 -- reading accepts them up to where they end
 module _ (ed : Edition) (s : List ℕ) (t : Tables) (well : Well t) where
-  tables-accepted : (x : ℕ) → Passes (ceiling_of ed) s 0 (table_fields ed t) x → (tables_by Permitted ed s).answer ≡ Read x
+  tables-accepted : (x : ℕ) → Passes (ceiling_of ed) s 0 (table_fields ed t) x → (tables_by Permitted ed s).answer ≡ Ok x
   unfolding tables_by
   tables-accepted x (Passes.on {p = a} f₁ (Passes.on {p = b} f₂ w)) =
       let parts = split (ceiling_of ed) s (sagas_of t) w in
@@ -194,9 +192,9 @@ module _ (ed : Edition) (s : List ℕ) (t : Tables) (well : Well t) where
       let fits = well.fits in
       let many = steps-many t well in
       let sum : 0 + owned_by (sagas_of t) ≡ owned_by (sagas_of t) = omega arith in
-      let sagas : (sagas_from (ceiling_of ed) s t.sagas b 0 empty_tables).answer ≡ Value (owned_by (sagas_of t)) m =
-      subst (λ (k : ℕ). (sagas_from (ceiling_of ed) s k b 0 empty_tables).answer ≡ Value (owned_by (sagas_of t)) m) many
-      (sagas-accepted (ceiling_of ed) s (sagas_of t) b 0 m empty_tables parts.1 (steps-each (ceiling_of ed) s t well) (omega arith) ∙ ap (λ (v : ℕ). Value v m) sum) in
+      let sagas : (sagas_from (ceiling_of ed) s t.sagas b 0 empty_tables).answer ≡ Ok ((owned_by (sagas_of t)), m) =
+      subst (λ (k : ℕ). (sagas_from (ceiling_of ed) s k b 0 empty_tables).answer ≡ Ok ((owned_by (sagas_of t)), m)) many
+      (sagas-accepted (ceiling_of ed) s (sagas_of t) b 0 m empty_tables parts.1 (steps-each (ceiling_of ed) s t well) (omega arith) ∙ ap (λ (v : ℕ). Ok (v, m)) sum) in
       let read = pass-sagas (ceiling_of ed) s t.sagas b 0 empty_tables (owned_by (sagas_of t)) m (number-next (ceiling_of ed) s a t.sagas b f₂).1 (omega (arith, well.listed, empty-sagas, empty-steps)) sagas in
       let made = read.2 in
       let steps = made.steps ∙ ap (λ (j : ℕ). take j empty_tables.steps ++ read.0) empty-sagas ∙ pass_same (ceiling_of ed) s read.1 parts.1 in
@@ -266,7 +264,7 @@ module _ (ed : Edition) (s : List ℕ) (t : Tables) (well : Well t) (x : ℕ) (f
   abbrev read : Tables
   read = (tables_by Permitted ed s).tables
 
-  answer : (tables_by Permitted ed s).answer ≡ Read x
+  answer : (tables_by Permitted ed s).answer ≡ Ok x
   answer = tables-accepted ed s t well x fields
 
   well-read : Well read
@@ -275,10 +273,10 @@ module _ (ed : Edition) (s : List ℕ) (t : Tables) (well : Well t) (x : ℕ) (f
   fields_read : table_fields ed read ≡ table_fields ed t
   fields_read = pass_same (ceiling_of ed) s (tables-pass ed s x Permitted answer) fields
 
-  pub back-permitted : ((tables_by Permitted ed s).answer ≡ Read x) × SameTables read t
+  pub back-permitted : ((tables_by Permitted ed s).answer ≡ Ok x) × SameTables read t
   back-permitted = (answer, same_tables ed t read well well-read fields_read)
 
-  pub back-forbidden : (GoesRound t → ⊥) → ((tables_by Forbidden ed s).answer ≡ Read x) × SameTables (tables_by Forbidden ed s).tables t
+  pub back-forbidden : (GoesRound t → ⊥) → ((tables_by Forbidden ed s).answer ≡ Ok x) × SameTables (tables_by Forbidden ed s).tables t
   back-forbidden none =
       let same = (never-moves-refused ed s).no_circle x answer (λ g. none (same-round ed t read well well-read fields_read g)) in
-      subst⁻¹ (λ (r : TablesRead). (r.answer ≡ Read x) × SameTables r.tables t) same back-permitted
+      subst⁻¹ (λ (r : TablesRead). (r.answer ≡ Ok x) × SameTables r.tables t) same back-permitted

@@ -1,13 +1,12 @@
 -- What accepted tables are: demand 3 rests on it; and which tables are refused because they can never move.
-use Rattle.std.specs.Prelude.{ℕ, zero, suc, ◌+◌, ◌*◌, ◌≤◌, ◌<◌, ◌≡◌, true, ◌↔◌, ◌≢◌, ◌⊎◌, List, get_or}
+use Rattle.std.specs.Prelude.{ℕ, zero, suc, ◌+◌, ◌*◌, ◌≤◌, ◌<◌, ◌≡◌, true, ◌↔◌, ◌≢◌, ◌⊎◌, List, get_or, Ok}
 use Rattle.terms.specs.Limits.{most_sagas, most_steps, most_transactions, most_objects, most_dependencies}
 use Rattle.terms.specs.declared.Refusal.{Refusal}
 use Rattle.terms.specs.declared.Refusal.TheVariants.{BadEdition, NeverMoves}
 use Rattle.sets.specs.Reach.{Leads}
-use Rattle.number.specs.Number.{and_then, ceiling_of, edition_number, number_at}
+use Rattle.number.specs.Number.{and_then, ceiling_of, edition_number, number_at, fault}
 use Rattle.number.specs.declared.Edition.{Edition}
 use Rattle.number.specs.declared.Edition.TheVariants.{First}
-use Rattle.number.specs.declared.Field.TheVariants.{Value, Fault}
 use Rattle.tables.specs.Sorts.{first_of, number_of_all, sagas_of, sort_of}
 use Rattle.tables.specs.Dependencies.{kind_number, dependency_at, allowed, rises_from}
 use Rattle.tables.specs.Circles.{begin_link}
@@ -19,7 +18,6 @@ use Rattle.tables.specs.declared.Dependency.{Dependency}
 use Rattle.tables.specs.declared.Sort.{Sort}
 use Rattle.tables.specs.declared.Sort.TheVariants.{Plain, Saga, Step, Undo}
 use Rattle.tables.specs.declared.Tables.{Tables}
-use Rattle.tables.specs.declared.TablesAnswer.TheVariants.{Read, Refused}
 
 -- the sort of an S
 abbrev pub IsSaga : Sort → Type 0
@@ -41,7 +39,7 @@ pub record Well (t : Tables) : Type 0 where
 
 -- tables that reading accepts are well formed, circles permitted or not
 abbrev pub AcceptedWell : Type 0
-AcceptedWell = (circles : Circles) (ed : Edition) (s : List ℕ) (at : ℕ) → (tables_by circles ed s).answer ≡ Read at → Well (tables_by circles ed s).tables
+AcceptedWell = (circles : Circles) (ed : Edition) (s : List ℕ) (at : ℕ) → (tables_by circles ed s).answer ≡ Ok at → Well (tables_by circles ed s).tables
 
 -- the same tables, as far as anything looks at them: what stands in their arrays behind the counts is never looked at
 pub record SameTables (t u : Tables) : Type 0 where
@@ -106,14 +104,14 @@ GoesRound tables = (t : ℕ) × Leads (begin_link tables) t t
 
 pub record CirclesRefused (ed : Edition) (s : List ℕ) : Type 0 where
   -- "Refuse tables exactly when": where they are accepted with circles permitted, and go round; "place at the dependency count"
-  pub refused : (p : ℕ) → ((tables_by Forbidden ed s).answer ≡ Refused NeverMoves p)
-      ↔ (((at : ℕ) × ((tables_by Permitted ed s).answer ≡ Read at)) × (GoesRound (tables_by Permitted ed s).tables × (p ≡ count_place ed s (tables_by Permitted ed s).tables)))
+  pub refused : (p : ℕ) → ((tables_by Forbidden ed s).answer ≡ fault NeverMoves p)
+      ↔ (((at : ℕ) × ((tables_by Permitted ed s).answer ≡ Ok at)) × (GoesRound (tables_by Permitted ed s).tables × (p ≡ count_place ed s (tables_by Permitted ed s).tables)))
   -- "judged after the last dependency entry": every other refusal of tables comes first
-  pub others_first : (r : Refusal) (p : ℕ) → (tables_by Permitted ed s).answer ≡ Refused r p → tables_by Forbidden ed s ≡ tables_by Permitted ed s
+  pub others_first : (r : Refusal) (p : ℕ) → (tables_by Permitted ed s).answer ≡ fault r p → tables_by Forbidden ed s ≡ tables_by Permitted ed s
   -- what is accepted is read as it was
-  pub accepted : (at : ℕ) → (tables_by Forbidden ed s).answer ≡ Read at → tables_by Permitted ed s ≡ tables_by Forbidden ed s
+  pub accepted : (at : ℕ) → (tables_by Forbidden ed s).answer ≡ Ok at → tables_by Permitted ed s ≡ tables_by Forbidden ed s
   -- and what does not go round is accepted where circles are forbidden too
-  pub no_circle : (at : ℕ) → (tables_by Permitted ed s).answer ≡ Read at → (GoesRound (tables_by Permitted ed s).tables → ⊥) → tables_by Forbidden ed s ≡ tables_by Permitted ed s
+  pub no_circle : (at : ℕ) → (tables_by Permitted ed s).answer ≡ Ok at → (GoesRound (tables_by Permitted ed s).tables → ⊥) → tables_by Forbidden ed s ≡ tables_by Permitted ed s
 
 abbrev pub NeverMovesRefused : Type 0
 NeverMovesRefused = (ed : Edition) (s : List ℕ) → CirclesRefused ed s
@@ -122,12 +120,12 @@ NeverMovesRefused = (ed : Edition) (s : List ℕ) → CirclesRefused ed s
 
 -- a book whose first field is a number names its edition by it, or is refused by 4; a first field that is no number of edition 1, also one above 65,535, is refused as such
 pub record EditionField (circles : Circles) (s : List ℕ) : Type 0 where
-  pub names : (ed : Edition) (next : ℕ) → number_at (ceiling_of First) s 0 ≡ Value (edition_number ed) next → edition_of s ≡ ed
-  pub other : (v next : ℕ) → number_at (ceiling_of First) s 0 ≡ Value v next → ((ed : Edition) → v ≢ edition_number ed)
-      → (tables_by circles (edition_of s) s).answer ≡ Refused BadEdition 0
-  pub none : (r : Refusal) (p : ℕ) → number_at (ceiling_of First) s 0 ≡ Fault r p → (tables_by circles (edition_of s) s).answer ≡ Refused r p
+  pub names : (ed : Edition) (next : ℕ) → number_at (ceiling_of First) s 0 ≡ Ok (edition_number ed, next) → edition_of s ≡ ed
+  pub other : (v next : ℕ) → number_at (ceiling_of First) s 0 ≡ Ok (v, next) → ((ed : Edition) → v ≢ edition_number ed)
+      → (tables_by circles (edition_of s) s).answer ≡ fault BadEdition 0
+  pub none : (r : Refusal) (p : ℕ) → number_at (ceiling_of First) s 0 ≡ fault r p → (tables_by circles (edition_of s) s).answer ≡ fault r p
   -- and no edition takes the tables of another
-  pub accepted : (ed : Edition) (at : ℕ) → (tables_by circles ed s).answer ≡ Read at → edition_of s ≡ ed
+  pub accepted : (ed : Edition) (at : ℕ) → (tables_by circles ed s).answer ≡ Ok at → edition_of s ≡ ed
 
 abbrev pub EditionsTold : Type 0
 EditionsTold = (circles : Circles) (s : List ℕ) → EditionField circles s

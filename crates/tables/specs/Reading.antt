@@ -1,27 +1,23 @@
 -- Reading the tables (docs/RULES.md, 1 The book and 4 Refusals): "Fields are judged as they are read: 2 and 3 first, then 4 to 7;
 -- a dependency's three fields are read before 6." The place of 2 to 5 is the first byte of the field, that of 6 the entry's. Document 02, request 3:
 -- 21 is "judged after the last dependency entry and before the first event, place at the dependency count".
-use Rattle.std.specs.Prelude.{ℕ, zero, suc, ◌+◌, ◌*◌, ◌-◌, Bool, true, false, cond, ◌&&◌, List, get_or, set, replicate, ltb}
+use Rattle.std.specs.Prelude.{ℕ, zero, suc, ◌+◌, ◌*◌, ◌-◌, Bool, true, false, cond, ◌&&◌, List, get_or, set, replicate, ltb, Result, Ok, Err}
 use Rattle.terms.specs.Limits.{most_sagas, most_steps, most_transactions, most_objects, most_dependencies}
 use Rattle.terms.specs.declared.Refusal.{Refusal}
-use Rattle.terms.specs.declared.Refusal.TheVariants.{Torn, BadEdition, BadCount, BadDependency, NeverMoves}
-use Rattle.number.specs.Number.{ceiling_of, edition_named, edition_number, number_at, number_within, and_then, row_at}
+use Rattle.terms.specs.declared.Refusal.TheVariants.{BadEdition, BadCount, BadDependency, NeverMoves}
+use Rattle.number.specs.Number.{ceiling_of, edition_named, edition_number, number_at, number_within, and_then, row_at, Field, fault}
 use Rattle.number.specs.declared.Edition.{Edition}
 use Rattle.number.specs.declared.Edition.TheVariants.{First}
 use Rattle.number.specs.declared.Row.{Row}
-use Rattle.number.specs.declared.Field.{Field}
-use Rattle.number.specs.declared.Field.TheVariants.{Value, Fault}
 use Rattle.tables.specs.Dependencies.{kind_of, no_dependency, entry_holds}
 use Rattle.tables.specs.Circles.{has_circle}
 use Rattle.tables.specs.declared.Circles.{Circles}
 use Rattle.tables.specs.declared.Circles.TheVariants.{Forbidden, Permitted}
 use Rattle.tables.specs.declared.Tables.{Tables}
 use Rattle.tables.specs.declared.SagasRead.{SagasRead}
-use Rattle.tables.specs.declared.Entry.{Entry}
-use Rattle.tables.specs.declared.Entry.TheVariants.{Declares, Stops}
-use Rattle.tables.specs.declared.TablesAnswer.{TablesAnswer}
-use Rattle.tables.specs.declared.TablesAnswer.TheVariants.{Read, Refused}
 use Rattle.tables.specs.declared.TablesRead.{TablesRead}
+use Rattle.number.specs.declared.Fault.{Fault}
+use Rattle.tables.specs.declared.Entry.{Entry}
 
 unfoldable pub empty_tables : Tables
 empty_tables =
@@ -48,11 +44,11 @@ with_saga tables n =
     }
 
 abbrev pub sagas_stopped : Refusal → ℕ → SagasRead
-sagas_stopped r p = record { answer = Fault r p; tables = empty_tables }
+sagas_stopped r p = record { answer = fault r p; tables = empty_tables }
 
 -- the steps of k more sagas; "N above 64 at the field that takes it there"
 unfoldable pub sagas_from : ℕ → List ℕ → ℕ → ℕ → ℕ → Tables → SagasRead
-sagas_from cap s zero at sum tables = record { answer = Value sum at; tables = tables }
+sagas_from cap s zero at sum tables = record { answer = Ok (sum, at); tables = tables }
 sagas_from cap s (suc k) at sum tables =
     and_then (number_within cap s at 1 most_steps BadCount) sagas_stopped
     (λ n next. cond (ltb most_transactions (sum + 2 * n)) (sagas_stopped BadCount at) (sagas_from cap s k next (sum + 2 * n) (with_saga tables n)))
@@ -60,18 +56,29 @@ sagas_from cap s (suc k) at sum tables =
 -- ---- the dependencies
 
 abbrev pub refused : Refusal → ℕ → TablesRead
-refused r at = record { answer = Refused r at; tables = empty_tables }
+refused r at = record { answer = fault r at; tables = empty_tables }
+
+-- the place after the tables, or why they are refused
+abbrev pub TablesAnswer : Type 0
+TablesAnswer = Result ℕ Fault
 
 -- they were accepted
 abbrev pub is_read : TablesAnswer → Bool
-is_read (Read at) = true
-is_read (Refused r p) = false
+is_read (Ok at) = true
+is_read (Err f) = false
+
+-- an entry with the place after it, or why there is none
+abbrev pub EntryRead : Type 0
+EntryRead = Result (Entry × ℕ) Fault
+
+abbrev pub declares : ℕ → ℕ → ℕ → ℕ → EntryRead
+declares d b kind next = Ok (record { dependent = d; base = b; kind = kind }, next)
 
 -- "each as dependent, base, kind"
-abbrev pub entry_by : Row → Entry
-entry_by row = and_then row.end Stops (λ n next. Declares (get_or row.fields 0 0) (get_or row.fields 1 0) (get_or row.fields 2 0) next)
+abbrev pub entry_by : Row → EntryRead
+entry_by row = and_then row.end fault (λ n next. declares (get_or row.fields 0 0) (get_or row.fields 1 0) (get_or row.fields 2 0) next)
 
-unfoldable pub entry_at : ℕ → List ℕ → ℕ → Entry
+unfoldable pub entry_at : ℕ → List ℕ → ℕ → EntryRead
 entry_at cap s at = entry_by (row_at cap s 3 at)
 
 abbrev pub with_entry : Tables → ℕ → ℕ → ℕ → Tables
@@ -86,21 +93,13 @@ with_entry tables d b kind =
     }
 
 -- all three fields are read, then the entry is judged, at its own place
-abbrev pub then_entry : Entry → ℕ → ℕ → Tables → (ℕ → ℕ → ℕ → ℕ → TablesRead) → TablesRead
-then_entry (Declares d b kind next) at n tables go = cond (entry_holds tables n d b kind) (go d b kind next) (refused BadDependency at)
-then_entry (Stops r p) at n tables go = refused r p
-
--- what was refused, as what the tables are; an entry or a value is none, and counts as torn
-unfoldable pub refused_entry : Entry → TablesRead
-refused_entry (Declares d b kind next) = refused Torn next
-refused_entry (Stops r p) = refused r p
-
-unfoldable pub refused_field : Field → TablesRead
-refused_field f = and_then f refused (λ v next. refused Torn next)
+abbrev pub then_entry : EntryRead → ℕ → ℕ → Tables → (ℕ → ℕ → ℕ → ℕ → TablesRead) → TablesRead
+then_entry (Ok (e, next)) at n tables go = cond (entry_holds tables n e.dependent e.base e.kind) (go e.dependent e.base e.kind next) (refused BadDependency at)
+then_entry (Err f) at n tables go = refused f.refusal f.place
 
 -- k more entries; n is N
 unfoldable pub dependencies_from : ℕ → List ℕ → ℕ → ℕ → ℕ → Tables → TablesRead
-dependencies_from cap s n zero at tables = record { answer = Read at; tables = tables }
+dependencies_from cap s n zero at tables = record { answer = Ok at; tables = tables }
 dependencies_from cap s n (suc k) at tables =
     then_entry (entry_at cap s at) at n tables (λ d b kind next. dependencies_from cap s n k next (with_entry tables d b kind))
 

@@ -9,9 +9,9 @@ ghost use Rattle.tables.specs.Sorts.{place_of, sort_of, is_known, is_saga, is_un
 ghost use Rattle.tables.specs.Counts.{saga_count, transaction_count, object_count, dependency_count};
 ghost use Rattle.tables.specs.Dependencies.{kind_number, kind_of, may_base, may_depend, allowed, rises_from, rises_to, entry_holds};
 ghost use Rattle.tables.specs.Circles.{is_begin_kind, begin_link, has_circle};
-ghost use Rattle.tables.specs.Reading.{empty_tables, refused, refused_entry, refused_field, sagas_from, entry_at, dependencies_from, unless_circle, rest_from, edition_ceiling, edition_of, tables_by};
+ghost use Rattle.tables.specs.Reading.{empty_tables, refused, sagas_stopped, sagas_from, entry_at, dependencies_from, unless_circle, rest_from, edition_ceiling, edition_of, tables_by};
 
-use number::{Edition, Field, Number, Row};
+use number::{Edition, Fault, Field, Number, Row};
 use terms::{Book, Refusal, Saga};
 
 // What a dependency asks of its base before its dependent may commit (the first three) or begin.
@@ -33,6 +33,7 @@ pub struct Dependency {
     pub kind: Kind,
 }
 
+// The tables of a book. The arrays are as long as tables may be, with their counts beside them: memory is fixed, and there is no heap.
 #[derive(Clone, Copy)]
 pub struct Tables {
     pub sagas: usize,
@@ -54,27 +55,33 @@ pub enum Sort {
     Unknown,
 }
 
-// The sagas as far as they were read: what they own together and the place after them, or a refusal with its place.
+// The sagas as far as they were read: what they own together and the place after them, or a refusal with its place; and the tables, which are the empty ones at a refusal.
+//
+// It and TablesRead are no Results: the clause of `read_tables` promises the empty tables beside a refusal, and so do `sagas_from`, `dependencies_from` and `rest_from`, of which its
+// definition, `tables_by`, is made. So a refusal is passed on by `refused` or `sagas_stopped`, and not by `?`. One generic record for both would be no plainer: each says by
+// its name what its answer is.
 #[derive(Drop)]
 pub struct SagasRead {
     pub answer: Field,
     pub tables: Tables,
 }
 
-// A dependency as it stands in the book and the place after it, or a refusal with its place.
-#[derive(Drop)]
-pub enum Entry {
-    Declares(usize, usize, usize, usize),
-    Stops(Refusal, usize),
+// A dependency as it stands in a book: the numbers of its dependent, of its base and of its kind. The kind is still the book's number, which may be none's: `allowed` asks that it be
+// from 1 to 7, and refuses the entry at its own place.
+#[derive(Clone, Copy)]
+pub struct Entry {
+    pub dependent: usize,
+    pub base: usize,
+    pub kind: usize,
 }
+
+// An entry with the place after it, or a refusal with its place.
+pub type EntryRead = Result<(Entry, usize), Fault>;
 
 // The place of the first event, or a refusal with its place.
-#[derive(Clone, Copy)]
-pub enum TablesAnswer {
-    Read(usize),
-    Refused(Refusal, usize),
-}
+pub type TablesAnswer = Result<usize, Fault>;
 
+// The answer with the tables beside it, which are the empty ones at a refusal.
 #[derive(Drop)]
 pub struct TablesRead {
     pub answer: TablesAnswer,
@@ -90,7 +97,7 @@ pub enum Circles {
 }
 
 impl Kind {
-    // The number that the rules give it.
+    // The number that the rules give it; a method and no `From`, since it says by its name which of its numbers it is: `kind as u8` would be another.
     pub fn number(self) -> u8
         ensures { result ≡ kind_number self }
     {
@@ -112,7 +119,8 @@ impl Kind {
         4 <= self.number()
     }
 
-    // The kind that a number from 1 to 7 stands for.
+    // The kind that a number from 1 to 7 stands for; any other number is refused before it comes here, so none is an error.
+    #[tactic(auto, unfolding(crate::specs::Dependencies::kind_of))]
     pub fn of(k: usize) -> Kind
         ensures { result ≡ kind_of k }
     {
@@ -132,49 +140,25 @@ impl Sort {
     pub fn is_known(self) -> bool
         ensures { result ≡ is_known self }
     {
-        match self {
-            Sort::Saga(_, _) => true,
-            Sort::Step(_, _, _) => true,
-            Sort::Undo(_, _, _) => true,
-            Sort::Plain => true,
-            Sort::Unknown => false,
-        }
+        !matches!(self, Sort::Unknown)
     }
 
     pub fn is_saga(self) -> bool
         ensures { result ≡ is_saga self }
     {
-        match self {
-            Sort::Saga(_, _) => true,
-            Sort::Step(_, _, _) => false,
-            Sort::Undo(_, _, _) => false,
-            Sort::Plain => false,
-            Sort::Unknown => false,
-        }
+        matches!(self, Sort::Saga(_, _))
     }
 
     pub fn is_undo(self) -> bool
         ensures { result ≡ is_undo self }
     {
-        match self {
-            Sort::Saga(_, _) => false,
-            Sort::Step(_, _, _) => false,
-            Sort::Undo(_, _, _) => true,
-            Sort::Plain => false,
-            Sort::Unknown => false,
-        }
+        matches!(self, Sort::Undo(_, _, _))
     }
 
     pub fn is_plain(self) -> bool
         ensures { result ≡ is_plain self }
     {
-        match self {
-            Sort::Saga(_, _) => false,
-            Sort::Step(_, _, _) => false,
-            Sort::Undo(_, _, _) => false,
-            Sort::Plain => true,
-            Sort::Unknown => false,
-        }
+        matches!(self, Sort::Plain)
     }
 
     // Whether others may depend on it.
@@ -192,6 +176,7 @@ impl Sort {
     }
 
     // The sort of the transaction k places after the first of a saga of n steps.
+    #[tactic(auto, unfolding(crate::specs::Sorts::place_of))]
     fn within(first: usize, n: usize, k: usize) -> Sort
         requires { (first < 65536) × ((n < 256) × (k < 2 * n)) }
         ensures { result ≡ place_of first n k }
@@ -212,20 +197,23 @@ impl Sort {
 }
 
 impl Dependency {
-    // Whether an entry comes after this one: by dependent, then base, then kind.
-    fn rises_to(self, d: usize, b: usize, kind: usize) -> bool
-        ensures { result ≡ rises_from self d b kind }
+    // Whether an entry comes after this one: by dependent, then base, then kind. It is written out as `rises_from` has it: an entry has wider numbers and a kind not judged yet, so one
+    // derived order would need a copy of both in a third type.
+    fn rises_to(self, entry: Entry) -> bool
+        ensures { result ≡ rises_from self entry.dependent entry.base entry.kind }
     {
         let dependent = self.dependent as usize;
         let base = self.base as usize;
-        let mine = self.kind;
-        let k = mine.number() as usize;
-        (dependent < d) | ((dependent == d) & ((base < b) | ((base == b) & (k < kind))))
+        let kind = self.kind.number() as usize;
+        (dependent < entry.dependent)
+            | ((dependent == entry.dependent)
+                & ((base < entry.base) | ((base == entry.base) & (kind < entry.kind))))
     }
 }
 
 impl Tables {
     // Of a book that declares nothing, or whose tables were refused.
+    #[tactic(auto, unfolding(crate::specs::Reading::empty_tables))]
     pub fn empty() -> Tables
         ensures { result ≡ empty_tables }
     {
@@ -248,33 +236,21 @@ impl Tables {
     pub fn saga_count(self) -> usize
         ensures { result ≡ saga_count self }
     {
-        let sagas = self.sagas;
-        if sagas < Book::SAGAS {
-            return sagas;
-        }
-        Book::SAGAS
+        self.sagas.min(Book::SAGAS)
     }
 
     // How many objects, no more than there may be.
     pub fn object_count(self) -> usize
         ensures { result ≡ object_count self }
     {
-        let objects = self.objects;
-        if objects < Book::OBJECTS {
-            return objects;
-        }
-        Book::OBJECTS
+        self.objects.min(Book::OBJECTS)
     }
 
     // How many declared dependencies, no more than there may be.
     pub fn dependency_count(self) -> usize
         ensures { result ≡ dependency_count self }
     {
-        let declared = self.declared;
-        if declared < Book::DEPENDENCIES {
-            return declared;
-        }
-        Book::DEPENDENCIES
+        self.declared.min(Book::DEPENDENCIES)
     }
 
     // How many transactions of all sorts, no more than there may be.
@@ -283,15 +259,7 @@ impl Tables {
     {
         let past = saga_at(self, Book::SAGAS);
         let owned = past.first as usize;
-        let plain = self.plain;
-        if Book::TRANSACTIONS <= owned {
-            return Book::TRANSACTIONS;
-        }
-        let left = Book::TRANSACTIONS - owned;
-        if plain < left {
-            return owned + plain;
-        }
-        Book::TRANSACTIONS
+        owned.saturating_add(self.plain).min(Book::TRANSACTIONS)
     }
 }
 
@@ -302,16 +270,14 @@ pub fn sort_of(tables: Tables, t: usize) -> Sort
     let plain = tables.plain;
     let g = tables.saga_count();
     let mut first: usize = 0;
-    let mut i: usize = 0;
-    while i < g {
-        let n = tables.steps[i] as usize;
+    for steps in &tables.steps[..g] {
+        let n = *steps as usize;
         let next = first + 2 * n;
         if t < next {
             let k = t - first;
             return Sort::within(first, n, k);
         }
         first = next;
-        i += 1;
     }
     let past = t - first;
     if past < plain {
@@ -326,21 +292,29 @@ pub fn saga_at(tables: Tables, index: usize) -> Saga
 {
     let g = tables.saga_count();
     let mut first: usize = 0;
-    let mut i: usize = 0;
-    while i < g {
-        let n = tables.steps[i] as usize;
+    for (i, steps) in tables.steps[..g].iter().enumerate() {
+        let n = *steps as usize;
         if i == index {
             return Saga {
                 first: first as u16,
                 steps: n as u16,
             };
         }
-        first = first + 2 * n;
-        i += 1;
+        first += 2 * n;
     }
     Saga {
         first: first as u16,
         steps: 0,
+    }
+}
+
+// Refused sagas leave the empty tables.
+fn sagas_stopped(fault: Fault) -> SagasRead
+    ensures { result ≡ sagas_stopped fault.refusal fault.place }
+{
+    SagasRead {
+        answer: Err(fault),
+        tables: Tables::empty(),
     }
 }
 
@@ -351,111 +325,86 @@ fn sagas_from(book: &[u8], start: usize, most: usize, count: usize) -> SagasRead
 {
     let mut tables = Tables::empty();
     let mut sum: usize = 0;
-    let mut i: usize = 0;
     let mut at = start;
-    while i < count {
-        let f = Number::within(book, at, most, 1, Saga::STEPS, Refusal::BadCount);
-        let Field::Value(n, next) = f else {
-            let none = Tables::empty();
-            return SagasRead {
-                answer: f,
-                tables: none,
-            };
+    for i in 0..count {
+        let (n, next) = match Number::within(book, at, most, 1, Saga::STEPS, Refusal::BadCount) {
+            Ok(field) => field,
+            Err(fault) => return sagas_stopped(fault),
         };
         let more = sum + 2 * n;
         if Book::TRANSACTIONS < more {
-            let none = Tables::empty();
-            return SagasRead {
-                answer: Field::Fault(Refusal::BadCount, at),
-                tables: none,
-            };
+            let refusal = Refusal::BadCount;
+            return sagas_stopped(Fault { refusal, place: at });
         }
         tables.steps[i] = n as u8;
-        i += 1;
-        tables.sagas = i;
+        tables.sagas = i + 1;
         sum = more;
         at = next;
     }
     SagasRead {
-        answer: Field::Value(sum, at),
+        answer: Ok((sum, at)),
         tables,
     }
 }
 
 // The three fields of a dependency.
-fn entry_at(book: &[u8], at: usize, most: usize) -> Entry
+#[tactic(auto, unfolding(crate::specs::Reading::entry_at))]
+fn entry_at(book: &[u8], at: usize, most: usize) -> EntryRead
     ensures { result ≡ entry_at most book.now at }
 {
     let row = Row::read(book, at, most, 3);
-    let end = row.end;
-    let fields = row.fields;
-    match end {
-        Field::Value(_, next) => Entry::Declares(fields[0], fields[1], fields[2], next),
-        Field::Fault(refusal, place) => Entry::Stops(refusal, place),
-    }
+    let (_, next) = row.end?;
+    let [dependent, base, kind, _] = row.fields;
+    let entry = Entry {
+        dependent,
+        base,
+        kind,
+    };
+    Ok((entry, next))
 }
 
 // Whether an entry comes after the last one so far.
-fn rises(tables: Tables, d: usize, b: usize, kind: usize) -> bool
+#[tactic(auto, unfolding(crate::specs::Dependencies::rises_to))]
+fn rises(tables: Tables, entry: Entry) -> bool
     requires { tables.declared ≤ most_dependencies }
-    ensures { result ≡ rises_to tables d b kind }
+    ensures { result ≡ rises_to tables entry.dependent entry.base entry.kind }
 {
     let declared = tables.declared;
     if declared == 0 {
         return true;
     }
-    let last = declared - 1;
-    let x = tables.dependencies[last];
-    x.rises_to(d, b, kind)
+    let last = tables.dependencies[declared - 1];
+    last.rises_to(entry)
 }
 
 // Whether known and different transactions depend by a kind that is there and allowed for their sorts; n is how many there are.
-fn is_allowed(tables: Tables, n: usize, d: usize, b: usize, kind: usize) -> bool
-    ensures { result ≡ allowed tables n d b kind }
+fn is_allowed(tables: Tables, n: usize, entry: Entry) -> bool
+    ensures { result ≡ allowed tables n entry.dependent entry.base entry.kind }
 {
-    let dependent = sort_of(tables, d);
-    let base = sort_of(tables, b);
-    ((d < n) & (b < n))
-        & ((d != b)
-            & (((1 <= kind) & (kind <= 7)) & (base.may_base() & dependent.may_depend(kind))))
+    let dependent = sort_of(tables, entry.dependent);
+    let base = sort_of(tables, entry.base);
+    ((entry.dependent < n) & (entry.base < n))
+        & ((entry.dependent != entry.base)
+            & (((1 <= entry.kind) & (entry.kind <= 7))
+                & (base.may_base() & dependent.may_depend(entry.kind))))
 }
 
 // Whether nothing of refusal 6 holds of an entry; n is how many transactions there are.
-fn entry_holds(tables: Tables, n: usize, d: usize, b: usize, kind: usize) -> bool
+#[tactic(auto, unfolding(crate::specs::Dependencies::entry_holds))]
+fn entry_holds(tables: Tables, n: usize, entry: Entry) -> bool
     requires { tables.declared ≤ most_dependencies }
-    ensures { result ≡ entry_holds tables n d b kind }
+    ensures { result ≡ entry_holds tables n entry.dependent entry.base entry.kind }
 {
-    is_allowed(tables, n, d, b, kind) & rises(tables, d, b, kind)
+    is_allowed(tables, n, entry) & rises(tables, entry)
 }
 
 // Refused tables are the empty tables.
-fn refused(refusal: Refusal, place: usize) -> TablesRead
-    ensures { result ≡ refused refusal place }
+fn refused(fault: Fault) -> TablesRead
+    ensures { result ≡ refused fault.refusal fault.place }
 {
-    let none = Tables::empty();
     TablesRead {
-        answer: TablesAnswer::Refused(refusal, place),
-        tables: none,
-    }
-}
-
-// An entry that was refused, as what the tables are.
-fn stopped_by_entry(e: Entry) -> TablesRead
-    ensures { result ≡ refused_entry e }
-{
-    match e {
-        Entry::Declares(_, _, _, next) => refused(Refusal::Torn, next),
-        Entry::Stops(refusal, p) => refused(refusal, p),
-    }
-}
-
-// A field that was refused, as what the tables are.
-fn stopped_by_field(f: Field) -> TablesRead
-    ensures { result ≡ refused_field f }
-{
-    match f {
-        Field::Value(_, next) => refused(Refusal::Torn, next),
-        Field::Fault(refusal, p) => refused(refusal, p),
+        answer: Err(fault),
+        tables: Tables::empty(),
     }
 }
 
@@ -472,29 +421,27 @@ fn dependencies_from(
     ensures { result ≡ dependencies_from most book.now n count start first }
 {
     let mut tables = first;
-    let mut i: usize = 0;
     let mut at = start;
-    while i < count {
-        let e = entry_at(book, at, most);
-        let Entry::Declares(d, b, kind, next) = e else {
-            return stopped_by_entry(e);
+    for i in 0..count {
+        let (entry, next) = match entry_at(book, at, most) {
+            Ok(read) => read,
+            Err(fault) => return refused(fault),
         };
-        let holds = entry_holds(tables, n, d, b, kind);
+        let holds = entry_holds(tables, n, entry);
         if !holds {
-            return refused(Refusal::BadDependency, at);
+            let refusal = Refusal::BadDependency;
+            return refused(Fault { refusal, place: at });
         }
-        let k = Kind::of(kind);
         tables.dependencies[i] = Dependency {
-            dependent: d as u8,
-            base: b as u8,
-            kind: k,
+            dependent: entry.dependent as u8,
+            base: entry.base as u8,
+            kind: Kind::of(entry.kind),
         };
-        i += 1;
-        tables.declared = i;
+        tables.declared = i + 1;
         at = next;
     }
     TablesRead {
-        answer: TablesAnswer::Read(at),
+        answer: Ok(at),
         tables,
     }
 }
@@ -505,17 +452,13 @@ fn begin_links(tables: Tables) -> [u64; Book::TRANSACTIONS]
 {
     let n = tables.dependency_count();
     let mut links = [0u64; Book::TRANSACTIONS];
-    let mut i: usize = 0;
-    while i < n {
-        let x = tables.dependencies[i];
-        let kind = x.kind;
+    for x in &tables.dependencies[..n] {
         let d = x.dependent as usize;
         let b = x.base as usize;
-        if kind.is_begin_kind() & (d < Book::TRANSACTIONS) {
+        if x.kind.is_begin_kind() & (d < Book::TRANSACTIONS) {
             let others = links[d];
             links[d] = sets::with_member(others, b);
         }
-        i += 1;
     }
     links
 }
@@ -525,18 +468,13 @@ fn followed(links: [u64; Book::TRANSACTIONS]) -> [u64; Book::TRANSACTIONS]
     ensures { (a b : ℕ) → a < most_transactions → b < most_transactions → mem (get_or result a 0) b ≡ leads_to most_transactions (λ x y. mem (get_or links x 0) y) a b }
 {
     let mut rows = links;
-    let mut k: usize = 0;
-    while k < Book::TRANSACTIONS {
+    for k in 0..Book::TRANSACTIONS {
         let through = rows[k];
-        let mut a: usize = 0;
-        while a < Book::TRANSACTIONS {
-            let row = rows[a];
-            if sets::member(row, k) {
-                rows[a] = row | through;
+        for row in rows.iter_mut() {
+            if sets::member(*row, k) {
+                *row |= through;
             }
-            a += 1;
         }
-        k += 1;
     }
     rows
 }
@@ -551,36 +489,34 @@ fn has_circle(tables: Tables) -> bool
     }
     let links = begin_links(tables);
     let rows = followed(links);
-    let mut t: usize = 0;
-    while t < Book::TRANSACTIONS {
-        let row = rows[t];
-        if sets::member(row, t) {
+    for (t, row) in rows.iter().enumerate() {
+        if sets::member(*row, t) {
             return true;
         }
-        t += 1;
     }
     false
 }
 
 // Tables that were read, unless they go round in a circle and none is permitted; `place` is that of their dependency count.
+#[tactic(auto, unfolding(crate::specs::Reading::unless_circle))]
 fn unless_circle(circles: Circles, place: usize, read: TablesRead) -> TablesRead
     ensures { result ≡ unless_circle circles place read }
 {
     let Circles::Forbidden = circles else {
         return read;
     };
-    let answer = read.answer;
-    let TablesAnswer::Read(_) = answer else {
+    if read.answer.is_err() {
         return read;
-    };
-    let tables = read.tables;
-    if has_circle(tables) {
-        return refused(Refusal::NeverMoves, place);
+    }
+    if has_circle(read.tables) {
+        let refusal = Refusal::NeverMoves;
+        return refused(Fault { refusal, place });
     }
     read
 }
 
 // What follows the sagas, which own `sum` transactions.
+#[tactic(auto, unfolding(crate::specs::Reading::rest_from))]
 fn rest_from(
     book: &[u8],
     at: usize,
@@ -592,24 +528,25 @@ fn rest_from(
     requires { (sum ≤ most_transactions) × (tables.declared ≡ 0) }
     ensures { result ≡ rest_from circles most book.now at sum tables }
 {
-    let f = Number::within(
+    let most_plain = Book::TRANSACTIONS - sum;
+    let (plain, p) = match Number::within(book, at, most, 0, most_plain, Refusal::BadCount) {
+        Ok(field) => field,
+        Err(fault) => return refused(fault),
+    };
+    let (objects, q) = match Number::within(book, p, most, 0, Book::OBJECTS, Refusal::BadCount) {
+        Ok(field) => field,
+        Err(fault) => return refused(fault),
+    };
+    let (count, first) = match Number::within(
         book,
-        at,
+        q,
         most,
         0,
-        Book::TRANSACTIONS - sum,
+        Book::DEPENDENCIES,
         Refusal::BadCount,
-    );
-    let Field::Value(plain, p) = f else {
-        return stopped_by_field(f);
-    };
-    let g = Number::within(book, p, most, 0, Book::OBJECTS, Refusal::BadCount);
-    let Field::Value(objects, q) = g else {
-        return stopped_by_field(g);
-    };
-    let h = Number::within(book, q, most, 0, Book::DEPENDENCIES, Refusal::BadCount);
-    let Field::Value(count, first) = h else {
-        return stopped_by_field(h);
+    ) {
+        Ok(field) => field,
+        Err(fault) => return refused(fault),
     };
     let mut all = tables;
     all.plain = plain;
@@ -627,37 +564,38 @@ fn edition_ceiling() -> usize
 }
 
 // The edition that a book names in its first field, which is always read under the ceiling of the first; where it names none, the book is refused as one of the first.
+#[tactic(auto, unfolding(crate::specs::Reading::edition_of))]
 pub fn edition_of(book: &[u8]) -> Edition
     ensures { result ≡ edition_of book.now }
 {
     let most = edition_ceiling();
     let f = Number::at(book, 0, most);
     match f {
-        Field::Value(n, _) => Edition::named(n),
-        Field::Fault(_, _) => Edition::First,
+        Ok((n, _)) => Edition::named(n),
+        Err(_) => Edition::First,
     }
 }
 
 // The tables of a book of this edition, and the place of its first event; or the refusal, with the empty tables.
+#[tactic(auto, unfolding(crate::specs::Reading::tables_by))]
 pub fn read_tables(book: &[u8], edition: Edition, circles: Circles) -> TablesRead
     ensures { result ≡ tables_by circles edition book.now }
 {
     let number = edition.number();
     let low = edition_ceiling();
     let most = edition.most() as usize;
-    let e = Number::within(book, 0, low, number, number, Refusal::BadEdition);
-    let Field::Value(_, p) = e else {
-        return stopped_by_field(e);
+    let (_, p) = match Number::within(book, 0, low, number, number, Refusal::BadEdition) {
+        Ok(field) => field,
+        Err(fault) => return refused(fault),
     };
-    let g = Number::within(book, p, most, 0, Book::SAGAS, Refusal::BadCount);
-    let Field::Value(count, q) = g else {
-        return stopped_by_field(g);
+    let (count, q) = match Number::within(book, p, most, 0, Book::SAGAS, Refusal::BadCount) {
+        Ok(field) => field,
+        Err(fault) => return refused(fault),
     };
     let s = sagas_from(book, q, most, count);
-    let a = s.answer;
-    let Field::Value(sum, after) = a else {
-        return stopped_by_field(a);
+    let (sum, after) = match s.answer {
+        Ok(owned) => owned,
+        Err(fault) => return refused(fault),
     };
-    let tables = s.tables;
-    rest_from(book, after, most, sum, tables, circles)
+    rest_from(book, after, most, sum, s.tables, circles)
 }

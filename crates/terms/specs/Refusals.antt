@@ -1,7 +1,8 @@
 -- The table of refusals (docs/RULES.md, 4 Refusals): the number of each.
-use Rattle.std.specs.Prelude.{ℕ}
+use Rattle.std.specs.Prelude.{ℕ, cond, eqb, Result, Ok, Err}
 use Rattle.terms.specs.declared.Refusal.{Refusal}
 use Rattle.terms.specs.declared.Refusal.TheVariants.{TooLong, Torn, BadNumber, BadEdition, BadCount, BadDependency, BadCode, NotInTables, NeverDoes, NotIdle, NotActive, NotResponsible, SagaRule, DependencyRule, DirtyRead, OnRing, MustWait, Full, NoRoom, AlreadyEnded, NeverMoves, UndoOnRing}
+use Rattle.terms.specs.declared.NoRefusal.{NoRefusal}
 use Rattle.terms.specs.declared.Verdict.{Verdict}
 use Rattle.terms.specs.declared.Verdict.TheVariants.{Accepted, Refused}
 
@@ -50,6 +51,32 @@ number_of AlreadyEnded = 20
 number_of NeverMoves = 21
 -- an active undo would be on a ring
 number_of UndoOnRing = 22
+
+-- the table read backwards: the refusal that a number names, none for a number outside the table
+unfoldable pub refusal_in : ℕ → Result Refusal NoRefusal
+refusal_in n =
+    cond (eqb n 1) (Ok TooLong)
+    (cond (eqb n 2) (Ok Torn)
+    (cond (eqb n 3) (Ok BadNumber)
+    (cond (eqb n 4) (Ok BadEdition)
+    (cond (eqb n 5) (Ok BadCount)
+    (cond (eqb n 6) (Ok BadDependency)
+    (cond (eqb n 7) (Ok BadCode)
+    (cond (eqb n 8) (Ok NotInTables)
+    (cond (eqb n 9) (Ok NeverDoes)
+    (cond (eqb n 10) (Ok NotIdle)
+    (cond (eqb n 11) (Ok NotActive)
+    (cond (eqb n 12) (Ok NotResponsible)
+    (cond (eqb n 13) (Ok SagaRule)
+    (cond (eqb n 14) (Ok DependencyRule)
+    (cond (eqb n 15) (Ok DirtyRead)
+    (cond (eqb n 16) (Ok OnRing)
+    (cond (eqb n 17) (Ok MustWait)
+    (cond (eqb n 18) (Ok Full)
+    (cond (eqb n 19) (Ok NoRoom)
+    (cond (eqb n 20) (Ok AlreadyEnded)
+    (cond (eqb n 21) (Ok NeverMoves)
+    (cond (eqb n 22) (Ok UndoOnRing) (Err (record { number = n })))))))))))))))))))))))
 
 -- a verdict as a number: 0 for accepted
 abbrev pub verdict_number : Verdict → ℕ

@@ -5,7 +5,7 @@
 ghost use Rattle.std.specs.Prelude.{◌≡◌};
 ghost use Rattle.terms.specs.Limits.{limits};
 ghost use Rattle.terms.specs.Events.{is_write};
-ghost use Rattle.terms.specs.Refusals.{number_of, verdict_number};
+ghost use Rattle.terms.specs.Refusals.{number_of, refusal_in, verdict_number};
 
 // A book: the bytes in which a service keeps its tables and its events. Its limits are these.
 #[derive(Clone, Copy)]
@@ -62,7 +62,7 @@ impl Limits {
 }
 
 // What an operation does to its object.
-#[derive(Clone, Copy)]
+#[derive(Clone, Copy, PartialEq, Eq)]
 pub enum Mark {
     Read,
     Write,
@@ -72,10 +72,7 @@ impl Mark {
     pub fn is_write(self) -> bool
         ensures { result ≡ is_write self }
     {
-        match self {
-            Mark::Read => false,
-            Mark::Write => true,
-        }
+        matches!(self, Mark::Write)
     }
 }
 
@@ -93,7 +90,7 @@ pub enum Event {
 }
 
 // Why a book, an event or a room is refused: one case for each number of the table of refusals.
-#[derive(Clone, Copy)]
+#[derive(Clone, Copy, PartialEq, Eq)]
 pub enum Refusal {
     TooLong,
     Torn,
@@ -120,7 +117,7 @@ pub enum Refusal {
 }
 
 impl Refusal {
-    // The number that the table of refusals gives it.
+    // The number that the table of refusals gives it. It is a method and no `From`, since the lists of promises name it, `Refusal::number`, with the definition of its clause, `number_of`.
     pub fn number(self) -> u8
         ensures { result ≡ number_of self }
     {
@@ -151,15 +148,58 @@ impl Refusal {
     }
 }
 
-// What judging answers.
-#[derive(Clone, Copy)]
+// A number that the table of refusals gives to none.
+#[derive(Clone, Copy, PartialEq, Eq)]
+pub struct NoRefusal {
+    pub number: u64,
+}
+
+// The refusal that a number names, and none for a number outside the table.
+impl TryFrom<u64> for Refusal {
+    type Error = NoRefusal;
+
+    ghost try_from_gives = { λ n r. r ≡ refusal_in n };
+
+    #[tactic(auto, unfolding(crate::specs::Refusals::refusal_in))]
+    fn try_from(n: u64) -> Result<Refusal, NoRefusal> {
+        match n {
+            1 => Ok(Refusal::TooLong),
+            2 => Ok(Refusal::Torn),
+            3 => Ok(Refusal::BadNumber),
+            4 => Ok(Refusal::BadEdition),
+            5 => Ok(Refusal::BadCount),
+            6 => Ok(Refusal::BadDependency),
+            7 => Ok(Refusal::BadCode),
+            8 => Ok(Refusal::NotInTables),
+            9 => Ok(Refusal::NeverDoes),
+            10 => Ok(Refusal::NotIdle),
+            11 => Ok(Refusal::NotActive),
+            12 => Ok(Refusal::NotResponsible),
+            13 => Ok(Refusal::SagaRule),
+            14 => Ok(Refusal::DependencyRule),
+            15 => Ok(Refusal::DirtyRead),
+            16 => Ok(Refusal::OnRing),
+            17 => Ok(Refusal::MustWait),
+            18 => Ok(Refusal::Full),
+            19 => Ok(Refusal::NoRoom),
+            20 => Ok(Refusal::AlreadyEnded),
+            21 => Ok(Refusal::NeverMoves),
+            22 => Ok(Refusal::UndoOnRing),
+            _ => Err(NoRefusal { number: n }),
+        }
+    }
+}
+
+// What judging answers. It is no Result: theorems speak of `Accepted` and `Refused`, such as `AcceptedWhen` of `histories` and `NextAccepted` of `desk`, and reading on goes past a refused event as past
+// an accepted one, so that no caller would pass the refusal on by `?`.
+#[derive(Clone, Copy, PartialEq, Eq)]
 pub enum Verdict {
     Accepted,
     Refused(Refusal),
 }
 
 impl Verdict {
-    // The number of its refusal, 0 for accepted.
+    // The number of its refusal, 0 for accepted; a method by its name, `Verdict::number`, as that of a refusal is.
     pub fn number(self) -> u8
         ensures { result ≡ verdict_number self }
     {

@@ -52,14 +52,9 @@ impl Operation {
     pub fn passed_to(self, receiver: u16) -> Operation
         ensures { result ≡ passed_to receiver self }
     {
-        let mark = self.mark;
-        let fate = self.fate;
         Operation {
-            object: self.object,
-            mark,
             responsible: receiver,
-            fate,
-            ended: self.ended,
+            ..self
         }
     }
 
@@ -67,8 +62,7 @@ impl Operation {
     pub fn given_to(self, receiver: u16) -> Operation
         ensures { result ≡ given_to receiver self }
     {
-        let fate = self.fate;
-        if fate.is_active() {
+        if self.fate.is_active() {
             return self.passed_to(receiver);
         }
         self
@@ -78,22 +72,17 @@ impl Operation {
     pub fn held_by(self, t: usize) -> bool
         ensures { result ≡ held_by t self }
     {
-        let fate = self.fate;
-        let responsible = self.responsible as usize;
-        fate.is_active() & (responsible == t)
+        self.fate.is_active() & (self.responsible as usize == t)
     }
 
     // Ended in this fate when so many operations were accepted.
     pub fn ended_as(self, fate: Fate, accepted: u16) -> Operation
         ensures { result ≡ ended_as fate accepted self }
     {
-        let mark = self.mark;
         Operation {
-            object: self.object,
-            mark,
-            responsible: self.responsible,
             fate,
             ended: accepted,
+            ..self
         }
     }
 
@@ -101,8 +90,7 @@ impl Operation {
     pub fn ended_alone(self, fate: Fate, accepted: u16) -> Operation
         ensures { result ≡ ended_alone fate accepted self }
     {
-        let now = self.fate;
-        if now.is_active() {
+        if self.fate.is_active() {
             return self.ended_as(fate, accepted);
         }
         self
@@ -112,61 +100,48 @@ impl Operation {
     fn conflicts(self, object: usize, mark: Mark) -> bool
         ensures { result ≡ conflict self object mark }
     {
-        let mine = self.mark;
-        let on = self.object as usize;
-        (on == object) & (mine.is_write() | mark.is_write())
+        (self.object as usize == object) & (self.mark.is_write() | mark.is_write())
     }
 
     // Whether it is tied to q, which is later and numbered j.
     fn tied_to(self, q: Operation, j: usize) -> bool
         ensures { result ≡ tied_to self q j }
     {
-        let mark = q.mark;
-        let object = q.object as usize;
-        let fate = self.fate;
         let ended = self.ended as usize;
-        self.conflicts(object, mark) & (!fate.is_aborted() | (j < ended))
+        self.conflicts(q.object as usize, q.mark) & (!self.fate.is_aborted() | (j < ended))
     }
 
     // Whether it does not count for the order of transactions: it is aborted, or its numbers are past the limits.
     pub fn is_gone(self) -> bool
         ensures { result ≡ is_gone self }
     {
-        let fate = self.fate;
         let a = self.responsible as usize;
         let o = self.object as usize;
-        fate.is_aborted() | ((Book::TRANSACTIONS <= a) | (Book::OBJECTS <= o))
+        self.fate.is_aborted() | ((Book::TRANSACTIONS <= a) | (Book::OBJECTS <= o))
     }
 
     // Whether its tie to the later q counts for the order of transactions.
     fn counts_with(self, q: Operation) -> bool
         ensures { result ≡ counts self q }
     {
-        let mark = q.mark;
-        let object = q.object as usize;
-        let a = self.responsible as usize;
-        let b = q.responsible as usize;
-        self.conflicts(object, mark) & (!(self.is_gone() | q.is_gone()) & (a != b))
+        self.conflicts(q.object as usize, q.mark)
+            & (!(self.is_gone() | q.is_gone()) & (self.responsible != q.responsible))
     }
 
     // Whether it is a read that t answers for.
     pub fn read_by(self, t: usize) -> bool
         ensures { result ≡ read_by t self }
     {
-        let mark = self.mark;
-        let fate = self.fate;
-        let a = self.responsible as usize;
-        (a == t) & (!mark.is_write() & !fate.is_aborted())
+        (self.responsible as usize == t) & (!self.mark.is_write() & !self.fate.is_aborted())
     }
 
     // Whether it is a write tied before the read q, numbered j, and neither committed nor active and t's own.
     pub fn dirties(self, t: usize, q: Operation, j: usize) -> bool
         ensures { result ≡ dirties t q j self }
     {
-        let mark = self.mark;
         let fate = self.fate;
         let a = self.responsible as usize;
-        mark.is_write()
+        self.mark.is_write()
             & (self.tied_to(q, j) & !(fate.is_committed() | (fate.is_active() & (a == t))))
     }
 
@@ -174,13 +149,12 @@ impl Operation {
     pub fn awaited_by(self, t: usize, object: usize, mark: Mark) -> bool
         ensures { result ≡ waits_for t object mark self }
     {
-        let fate = self.fate;
         let a = self.responsible as usize;
-        fate.is_active() & ((a != t) & self.conflicts(object, mark))
+        self.fate.is_active() & ((a != t) & self.conflicts(object, mark))
     }
 }
 
-// The operations accepted so far, by their numbers.
+// The operations accepted so far, by their numbers. There is no heap: a fixed array has room for all, and how many there are stands beside it.
 #[derive(Clone, Copy)]
 pub struct Ops {
     pub all: [Operation; Operation::MOST],
@@ -191,31 +165,19 @@ impl Fate {
     pub fn is_aborted(self) -> bool
         ensures { result ≡ is_aborted self }
     {
-        match self {
-            Fate::Aborted => true,
-            Fate::Active => false,
-            Fate::Committed => false,
-        }
+        matches!(self, Fate::Aborted)
     }
 
     pub fn is_active(self) -> bool
         ensures { result ≡ is_active self }
     {
-        match self {
-            Fate::Aborted => false,
-            Fate::Active => true,
-            Fate::Committed => false,
-        }
+        matches!(self, Fate::Active)
     }
 
     pub fn is_committed(self) -> bool
         ensures { result ≡ is_committed self }
     {
-        match self {
-            Fate::Aborted => false,
-            Fate::Active => false,
-            Fate::Committed => true,
-        }
+        matches!(self, Fate::Committed)
     }
 }
 
@@ -224,20 +186,17 @@ impl Ops {
     pub fn none() -> Ops
         ensures { result ≡ no_ops }
     {
-        let none = Operation::none();
-        let all = [none; Operation::MOST];
-        Ops { all, count: 0 }
+        Ops {
+            all: [Operation::none(); Operation::MOST],
+            count: 0,
+        }
     }
 
     // How many operations were accepted, no more than there is room for.
     pub fn size(self) -> usize
         ensures { result ≡ size self }
     {
-        let count = self.count;
-        if count < Operation::MOST {
-            return count;
-        }
-        Operation::MOST
+        self.count.min(Operation::MOST)
     }
 
     // For every ordered pair of transactions, whether the first stands before the second by one tie.
@@ -245,22 +204,17 @@ impl Ops {
         ensures { result ≡ pairs_of self }
     {
         let n = self.size();
-        let row = [false; Book::TRANSACTIONS];
-        let mut table = [row; Book::TRANSACTIONS];
-        let mut j: usize = 0;
-        while j < n {
+        let mut table = [[false; Book::TRANSACTIONS]; Book::TRANSACTIONS];
+        for j in 0..n {
             let q = self.all[j];
             let b = q.responsible as usize;
-            let mut i: usize = 0;
-            while i < j {
+            for i in 0..j {
                 let p = self.all[i];
                 if p.counts_with(q) {
                     let a = p.responsible as usize;
                     table[a][b] = true;
                 }
-                i += 1;
             }
-            j += 1;
         }
         table
     }

@@ -7,11 +7,17 @@ use mathlib.Core.Logic.{◌≢◌}
 use mathlib.Core.Bool.{Bool, true, false, not}
 use lib.Dec.{eqb}
 use borrow.Author.Tests.{eq-eqb, ne_eqb}
+use Rattle.std.specs.Int.{from_bool}
 use Rattle.laws.specs.Index.{count_below, one}
 
 one-le : (b : Bool) → one b ≤ 1
 one-le true = omega arith
 one-le false = omega arith
+
+-- a test as the code counts it
+pub from-one : (b : Bool) → from_bool b ≡ one b
+from-one true = refl
+from-one false = refl
 
 one-both : (b : Bool) → one b + one (not b) ≡ 1
 one-both true = refl

@@ -1,11 +1,11 @@
 -- What one book adds, case by case as the code comes to it.
-use Prim.Native.Nat.{ℕ, ◌+◌, ◌≤◌, ◌<◌}
+use Prim.Native.Nat.{ℕ, ◌≤◌, ◌<◌}
 use native.Mathlib.Omega.{arith}
-use mathlib.Core.Path.{◌≡◌, refl, sym, ap, ◌∙◌}
+use mathlib.Core.Path.{◌≡◌, ap, ◌∙◌}
 use mathlib.Core.Bool.{Bool, true, false}
 use mathlib.Core.List.{List}
 use borrow.Author.Tests.{le-ltb, lt-ltb}
-use Rattle.laws.specs.Index.{count_below, one}
+use Rattle.laws.specs.Index.{one}
 use Rattle.terms.specs.Limits.{most_sagas}
 use Rattle.tables.specs.Counts.{saga_count}
 use Rattle.tables.specs.declared.Tables.{Tables}
@@ -13,8 +13,8 @@ use Rattle.rules.specs.declared.State.{State}
 use Rattle.book.specs.Reading.{reading_of}
 use Rattle.book.specs.declared.Reading.{Reading}
 use Rattle.totals.specs.Figures.{add_answer, added_to, counts_of, how_many, is_open, most_books, was_backed_out, was_begun, was_committed, with_book}
-use Rattle.totals.specs.declared.Answer.{Answer}
-use Rattle.totals.specs.declared.Answer.TheVariants.{Counted, TooManyBooks}
+use Rattle.std.specs.Prelude.{Ok, Err}
+use Rattle.totals.specs.declared.NotRead.TheVariants.{TooManyBooks}
 use Rattle.totals.specs.declared.SagaCounts.{SagaCounts}
 use Rattle.totals.specs.declared.Totals.{Totals}
 use Rattle.totals.proofs.CountLaws.{count-le}
@@ -47,13 +47,13 @@ counts-small tables s =
 -- ---- one of the first 1,000, or one too many
 
 module _ (t : Totals) (s : List ℕ) where
-  pub one-too-many : most_books ≤ t.books → (TooManyBooks ≡ add_answer t s) × (t ≡ added_to t s)
+  pub one-too-many : most_books ≤ t.books → (Err TooManyBooks ≡ add_answer t s) × (t ≡ added_to t s)
   unfolding add_answer added_to
   one-too-many h = let off = le-ltb t.books most_books h in (rw off, rw off)
 
   pub one_more : t.books < most_books → (r : Reading) → r ≡ reading_of s → (n : Totals) → n ≡ with_book t r
-      → (Counted r.answer ≡ add_answer t s) × (n ≡ added_to t s)
+      → (Ok r.answer ≡ add_answer t s) × (n ≡ added_to t s)
   unfolding add_answer added_to
   one_more h r e n d =
       let on = lt-ltb t.books most_books h in
-      (rw on (ap (λ (x : Reading). Counted x.answer) e), rw on (d ∙ ap (with_book t) e))
+      (rw on (ap (λ (x : Reading). Ok x.answer) e), rw on (d ∙ ap (with_book t) e))

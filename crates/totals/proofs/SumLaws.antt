@@ -7,7 +7,7 @@ use lib.ListN.{length, take}
 use borrow.Author.Tests.{lt-ltb}
 use Rattle.terms.specs.Limits.{most_sagas}
 use Rattle.book.specs.Reading.{reading_of}
-use Rattle.totals.specs.Figures.{added_all, added_to, counts_of, most_books, with_book}
+use Rattle.totals.specs.Figures.{added_all, added_to, most_books, with_book}
 use Rattle.totals.specs.Promises.{sum_over}
 use Rattle.totals.specs.declared.Totals.{Totals}
 use Rattle.totals.proofs.FiguresLaws.{one-too-many}

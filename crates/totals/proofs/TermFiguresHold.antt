@@ -1,5 +1,5 @@
 -- What is promised of the term's figures holds.
-use Prim.Native.Nat.{ℕ, ◌+◌, ◌*◌, ◌≤◌, ◌<◌, min}
+use Prim.Native.Nat.{ℕ, ◌+◌, ◌*◌, ◌≤◌, ◌<◌}
 use native.Mathlib.Omega.{arith}
 use mathlib.Core.Path.{◌≡◌, refl, sym, ap, ap₂, ◌∙◌, subst}
 use mathlib.Core.List.{List}
@@ -10,10 +10,9 @@ use Rattle.terms.specs.Limits.{most_bytes, most_sagas}
 use Rattle.terms.specs.declared.Refusal.{Refusal}
 use Rattle.terms.specs.declared.Verdict.{Verdict}
 use Rattle.tables.specs.Counts.{saga_count}
-use Rattle.tables.specs.Reading.{empty_tables, tables_by}
+use Rattle.tables.specs.Reading.{empty_tables}
 use Rattle.tables.specs.declared.Circles.TheVariants.{Forbidden}
 use Rattle.tables.specs.declared.Tables.{Tables}
-use Rattle.tables.specs.declared.TablesAnswer.TheVariants.{Read, Refused as RefusedTables}
 use Rattle.rules.specs.declared.State.{State}
 use Rattle.book.specs.Demands.{NothingRead}
 use Rattle.number.specs.declared.Edition.{Edition}
@@ -26,7 +25,7 @@ use Rattle.share.specs.Promises.{InLowestTerms}
 use Rattle.share.specs.Shares.{lowest}
 use Rattle.share.proofs.SharesHold.{shares-hold}
 use Rattle.totals.specs.Figures.{added_to, counts_of, grown, how_many, is_open, is_refused, most_books, no_totals, share_of, term_of, was_backed_out, was_begun, was_committed, with_book}
-use Rattle.totals.specs.Promises.{EachOnce, OneBook, SameCounts, TermFigures, TermTotals, backed_out_in, begun_in, committed_in, open_in, refused_in, sum_over}
+use Rattle.totals.specs.Promises.{EachOnce, OneBook, TermFigures, TermTotals, backed_out_in, begun_in, committed_in, open_in, refused_in, sum_over}
 use Rattle.totals.specs.declared.SagaCounts.{SagaCounts}
 use Rattle.totals.specs.declared.Totals.{Totals}
 use Rattle.totals.proofs.CountLaws.{count-apart, count-both, count-itself}

@@ -1,6 +1,6 @@
 -- The term's figures (document 02, request 12): "how many sagas were begun, committed, backed out and still open; and the share backed out of those begun". "Books are read in
 -- request 8's old way; a refused book adds its accepted opening and is counted apart. Refusals: 23 for the 1,001st book, totals unchanged."
-use Rattle.std.specs.Prelude.{ℕ, ◌+◌, ◌*◌, min, Bool, true, false, cond, not, ◌&&◌, List, [], ◌∷◌, ltb}
+use Rattle.std.specs.Prelude.{ℕ, ◌+◌, ◌*◌, min, Bool, true, false, cond, not, ◌&&◌, Result, Ok, Err, List, [], ◌∷◌, ltb}
 use Rattle.laws.specs.Index.{count_below, one}
 use Rattle.terms.specs.Limits.{most_sagas}
 use Rattle.terms.specs.Refusals.{verdict_number}
@@ -16,8 +16,8 @@ use Rattle.book.specs.Reading.{reading_of}
 use Rattle.book.specs.declared.Reading.{Reading}
 use Rattle.share.specs.Shares.{lowest}
 use Rattle.share.specs.declared.Share.{Share}
-use Rattle.totals.specs.declared.Answer.{Answer}
-use Rattle.totals.specs.declared.Answer.TheVariants.{Counted, TooManyBooks}
+use Rattle.totals.specs.declared.NotRead.{NotRead}
+use Rattle.totals.specs.declared.NotRead.TheVariants.{TooManyBooks}
 use Rattle.totals.specs.declared.SagaCounts.{SagaCounts}
 use Rattle.totals.specs.declared.Totals.{Totals}
 
@@ -95,12 +95,16 @@ with_book t r =
 unfoldable pub added_to : Totals → List ℕ → Totals
 added_to t s = cond (ltb t.books most_books) (with_book t (reading_of s)) t
 
+-- the verdict of reading the book, or why it was not read
+abbrev pub Answer : Type 0
+Answer = Result Verdict NotRead
+
 unfoldable pub add_answer : Totals → List ℕ → Answer
-add_answer t s = cond (ltb t.books most_books) (Counted (reading_of s).answer) TooManyBooks
+add_answer t s = cond (ltb t.books most_books) (Ok (reading_of s).answer) (Err TooManyBooks)
 
 abbrev pub answer_number : Answer → ℕ
-answer_number (Counted v) = verdict_number v
-answer_number TooManyBooks = 23
+answer_number (Ok v) = verdict_number v
+answer_number (Err TooManyBooks) = 23
 
 -- one book after the other
 unfoldable pub added_all : Totals → List (List ℕ) → Totals

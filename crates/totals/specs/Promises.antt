@@ -1,5 +1,5 @@
 -- What is promised of the term's figures.
-use Rattle.std.specs.Prelude.{ℕ, ◌+◌, ◌≤◌, ◌<◌, min, ◌≡◌, Bool, true, false, not, ◌↔◌, ◌≢◌, List, [], ◌∷◌, eqb, length, take}
+use Rattle.std.specs.Prelude.{ℕ, ◌+◌, ◌≤◌, ◌<◌, min, ◌≡◌, Bool, true, false, not, ◌↔◌, ◌≢◌, Ok, Err, List, [], ◌∷◌, eqb, length, take}
 use Rattle.laws.specs.Index.{one}
 use Rattle.terms.specs.Limits.{most_bytes, most_sagas}
 use Rattle.terms.specs.Refusals.{verdict_number}
@@ -9,14 +9,14 @@ use Rattle.terms.specs.declared.Verdict.TheVariants.{Accepted, Refused}
 use Rattle.tables.specs.Reading.{edition_of, tables_by}
 use Rattle.tables.specs.declared.Circles.TheVariants.{Forbidden}
 use Rattle.tables.specs.declared.Tables.{Tables}
-use Rattle.tables.specs.declared.TablesAnswer.TheVariants.{Read, Refused as RefusedTables}
 use Rattle.rules.specs.declared.Phase.TheVariants.{Committed, Idle}
 use Rattle.rules.specs.declared.State.{State}
 use Rattle.closing.specs.Closing.{own_of, settled}
 use Rattle.book.specs.Reading.{opening_of, reading_of}
 use Rattle.share.specs.Promises.{InLowestTerms}
 use Rattle.totals.specs.Figures.{add_answer, added_to, answer_number, how_many, is_open, is_refused, most_books, share_of, term_of, was_backed_out, was_begun, was_committed}
-use Rattle.totals.specs.declared.Answer.TheVariants.{Counted, TooManyBooks}
+use Rattle.totals.specs.declared.NotRead.TheVariants.{TooManyBooks}
+use Rattle.number.specs.Number.{fault}
 
 -- ---- one saga: each of the four exactly when its sentence holds, in any state
 
@@ -68,10 +68,10 @@ pub record OneBook (s : List ℕ) : Type 0 where
   pub refused : (r : Refusal) → (reading_of s).answer ≡ Refused r → refused_in s ≡ 1
   pub adds_up : committed_in s + backed_out_in s + open_in s ≡ begun_in s
   -- "a refused book adds its accepted opening": that is a book accepted whole, and it has the same counts
-  pub opening : (at : ℕ) → length s ≤ most_bytes → (tables_by Forbidden (edition_of s) s).answer ≡ Read at
+  pub opening : (at : ℕ) → length s ≤ most_bytes → (tables_by Forbidden (edition_of s) s).answer ≡ Ok at
       → (refused_in (opening_of s) ≡ 0) × SameCounts s (opening_of s)
   -- one whose tables are refused, or that is too long, adds nothing but that it was refused
-  pub no_tables : (r : Refusal) (p : ℕ) → (tables_by Forbidden (edition_of s) s).answer ≡ RefusedTables r p → (refused_in s ≡ 1) × (begun_in s ≡ 0)
+  pub no_tables : (r : Refusal) (p : ℕ) → (tables_by Forbidden (edition_of s) s).answer ≡ fault r p → (refused_in s ≡ 1) × (begun_in s ≡ 0)
   pub too_long : most_bytes < length s → (refused_in s ≡ 1) × (begun_in s ≡ 0)
 
 -- ---- the term: any list of books, one after the other
@@ -93,10 +93,10 @@ pub record TermTotals (books : List (List ℕ)) : Type 0 where
   -- "the share backed out of those begun as two whole numbers brought to lowest terms"
   pub share : InLowestTerms (sum_over (backed_out_in) (take most_books books)) (sum_over (begun_in) (take most_books books)) (share_of (term_of books))
   -- the next book is read, while there are fewer than 1,000
-  pub next : length books < most_books → (s : List ℕ) → add_answer (term_of books) s ≡ Counted (reading_of s).answer
+  pub next : length books < most_books → (s : List ℕ) → add_answer (term_of books) s ≡ Ok (reading_of s).answer
   -- "23 for the 1,001st book, totals unchanged"
   pub too_many : most_books ≤ length books → (s : List ℕ)
-      → (add_answer (term_of books) s ≡ TooManyBooks) × (added_to (term_of books) s ≡ term_of books)
+      → (add_answer (term_of books) s ≡ Err TooManyBooks) × (added_to (term_of books) s ≡ term_of books)
 
 pub record TermFigures : Type 0 where
   pub saga : (tables : Tables) (s : State) (i : ℕ) → SagaStands tables s i
@@ -104,4 +104,4 @@ pub record TermFigures : Type 0 where
   pub book : (s : List ℕ) → OneBook s
   pub term : (books : List (List ℕ)) → TermTotals books
   -- "up to 1,000 books", 23 for one more, and the number of its refusal for a book that was read, 0 for an accepted one
-  pub numbers : (most_books ≡ 1000) × ((answer_number TooManyBooks ≡ 23) × ((v : Verdict) → answer_number (Counted v) ≡ verdict_number v))
+  pub numbers : (most_books ≡ 1000) × ((answer_number (Err TooManyBooks) ≡ 23) × ((v : Verdict) → answer_number (Ok v) ≡ verdict_number v))

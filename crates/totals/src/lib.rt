@@ -2,7 +2,6 @@
 #![tactic(auto)]
 
 ghost use Rattle.std.specs.Prelude.{◌≡◌, ◌≤◌, ◌<◌};
-ghost use Rattle.laws.specs.Index.{one};
 ghost use Rattle.terms.specs.Limits.{most_sagas};
 ghost use Rattle.closing.specs.Closing.{own_of};
 ghost use Rattle.totals.specs.Figures.{add_answer, added_to, answer_number, backed_out_by, begun_by, counts_of, grown, is_refused, most_books, no_totals, open_by, share_of, with_book};
@@ -25,7 +24,8 @@ pub struct Totals {
     pub unsettled: u64,
 }
 
-// How many sagas of one book were begun, committed, backed out and are still open.
+// How many sagas of one book were begun, committed, backed out and are still open. The same four stand in Totals one by one: `begun`, `still_open` and `adds_up` of specs/Promises name
+// them there.
 #[derive(Drop)]
 pub struct SagaCounts {
     pub begun: u64,
@@ -34,29 +34,29 @@ pub struct SagaCounts {
     pub unsettled: u64,
 }
 
-// What adding a book answers: it was counted, and this is the verdict of reading it; or there are 1,000 books already, and it was not read.
-#[derive(Drop)]
-pub enum Answer {
-    Counted(Verdict),
+// Why a book was not read: there are 1,000 already.
+#[derive(Clone, Copy)]
+pub enum NotRead {
     TooManyBooks,
 }
 
-// The answer, and the totals with the book.
+// What adding a book answers: the verdict of reading it, or why it was not read.
+pub type Answer = Result<Verdict, NotRead>;
+
+// The answer, and the totals with the book. They stand beside each other, since `add` hands totals back on a refusal too: `added_to` gives those that were before.
 #[derive(Drop)]
 pub struct Added {
     pub answer: Answer,
     pub totals: Totals,
 }
 
-impl Answer {
-    // The number of its refusal, 0 for a book that is accepted whole.
-    pub fn number(self) -> u8
-        ensures { result ≡ answer_number self }
-    {
-        match self {
-            Answer::Counted(verdict) => verdict.number(),
-            Answer::TooManyBooks => 23,
-        }
+// The number of an answer's refusal, 0 for a book that is accepted whole.
+pub fn answer_number(answer: Answer) -> u8
+    ensures { result ≡ answer_number answer }
+{
+    match answer {
+        Ok(verdict) => verdict.number(),
+        Err(NotRead::TooManyBooks) => 23,
     }
 }
 
@@ -91,23 +91,12 @@ impl Totals {
 
 // ---- one book
 
-// 1 for what holds, 0 for what does not.
-fn one(holds: bool) -> u64
-    ensures { result ≡ one holds }
-{
-    if holds {
-        return 1;
-    }
-    0
-}
-
 // The phase of S of the saga of an index.
 fn saga_phase(tables: Tables, state: State, i: usize) -> Phase
     ensures { result ≡ own_of tables state i 0 }
 {
     let saga = tables::saga_at(tables, i);
-    let transactions = state.transactions;
-    rules::own(transactions, saga.first, 0)
+    rules::own(&state.transactions, saga.first, 0)
 }
 
 // Whether a saga was begun, by the phase of S.
@@ -140,19 +129,17 @@ pub fn counts_of(tables: Tables, state: State) -> SagaCounts
     let mut committed: u64 = 0;
     let mut backed: u64 = 0;
     let mut unsettled: u64 = 0;
-    let mut i: usize = 0;
-    while i < sagas {
+    for i in 0..sagas {
         let phase = saga_phase(tables, state, i);
         let settled = closing::settled(tables, state, i);
-        let more_begun = one(was_begun(phase));
-        let more_committed = one(phase.is_committed());
-        let more_backed = one(was_backed_out(phase, settled));
-        let more_unsettled = one(is_open(phase, settled));
+        let more_begun = u64::from(was_begun(phase));
+        let more_committed = u64::from(phase.is_committed());
+        let more_backed = u64::from(was_backed_out(phase, settled));
+        let more_unsettled = u64::from(is_open(phase, settled));
         begun += more_begun;
         committed += more_committed;
         backed += more_backed;
         unsettled += more_unsettled;
-        i += 1;
     }
     SagaCounts {
         begun,
@@ -168,10 +155,7 @@ pub fn counts_of(tables: Tables, state: State) -> SagaCounts
 fn is_refused(verdict: Verdict) -> bool
     ensures { result ≡ is_refused verdict }
 {
-    match verdict {
-        Verdict::Accepted => false,
-        Verdict::Refused(_) => true,
-    }
+    matches!(verdict, Verdict::Refused(_))
 }
 
 // A total with more.
@@ -179,10 +163,7 @@ fn grown(total: u64, more: u64) -> u64
     requires { more ≤ most_sagas }
     ensures { result ≡ grown total more }
 {
-    if total < Totals::SAGAS {
-        return total + more;
-    }
-    Totals::SAGAS + more
+    total.min(Totals::SAGAS) + more
 }
 
 // The totals with a book that was read.
@@ -194,7 +175,7 @@ fn with_book(totals: Totals, read: Reading) -> Totals
     let state = read.state;
     let answer = read.answer;
     let counts = counts_of(tables, state);
-    let refused = grown(totals.refused, one(is_refused(answer)));
+    let refused = grown(totals.refused, u64::from(is_refused(answer)));
     let begun = grown(totals.begun, counts.begun);
     let committed = grown(totals.committed, counts.committed);
     let backed = grown(totals.backed, counts.backed);
@@ -215,7 +196,7 @@ pub fn add(totals: Totals, book: &[u8]) -> Added
 {
     if Totals::BOOKS <= totals.books {
         return Added {
-            answer: Answer::TooManyBooks,
+            answer: Err(NotRead::TooManyBooks),
             totals,
         };
     }
@@ -223,7 +204,7 @@ pub fn add(totals: Totals, book: &[u8]) -> Added
     let verdict = read.answer;
     let sum = with_book(totals, read);
     Added {
-        answer: Answer::Counted(verdict),
+        answer: Ok(verdict),
         totals: sum,
     }
 }

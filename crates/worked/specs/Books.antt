@@ -1,12 +1,11 @@
 -- What is promised of any run of events, said of books: of every book whose tables are accepted, and of every saga in it; and a closing step written behind
 -- the accepted opening.
-use Rattle.std.specs.Prelude.{ℕ, ◌+◌, ◌*◌, ◌≤◌, ◌<◌, ◌≡◌, List, [], ◌∷◌, ◌++◌, length}
+use Rattle.std.specs.Prelude.{ℕ, ◌+◌, ◌*◌, ◌≤◌, ◌<◌, ◌≡◌, List, [], ◌∷◌, ◌++◌, length, Ok}
 use Rattle.terms.specs.Limits.{most_bytes}
 use Rattle.terms.specs.declared.Verdict.TheVariants.{Accepted}
 use Rattle.number.specs.declared.Edition.{Edition}
 use Rattle.tables.specs.Reading.{tables_by}
 use Rattle.tables.specs.declared.Circles.{Circles}
-use Rattle.tables.specs.declared.TablesAnswer.TheVariants.{Read}
 use Rattle.histories.specs.Families.{Families}
 use Rattle.histories.specs.May.{AcceptedWhen}
 use Rattle.histories.specs.Promises.{AnyRun}
@@ -30,7 +29,7 @@ pub record Kept (circles : Circles) (ed : Edition) (s : List ℕ) (at : ℕ) : T
   pub demand : (i : ℕ) → i < (tables_by circles ed s).tables.sagas → Demand (tables_by circles ed s).tables i
 
 abbrev pub BooksKept : Type 0
-BooksKept = (circles : Circles) (ed : Edition) (s : List ℕ) (at : ℕ) → (tables_by circles ed s).answer ≡ Read at → Kept circles ed s at
+BooksKept = (circles : Circles) (ed : Edition) (s : List ℕ) (at : ℕ) → (tables_by circles ed s).answer ≡ Ok at → Kept circles ed s at
 
 -- ---- a closing step in bytes
 

@@ -1,20 +1,16 @@
 -- The proved cases (docs/RULES.md, 8 Proved cases and easy wrong turns), P1 to P12, in one table with one statement; and a book for every refusal.
-use Rattle.std.specs.Prelude.{◌≡◌, cond, ℕ, zero, suc, List, [], ◌∷◌, ◌++◌, map, replicate}
+use Rattle.std.specs.Prelude.{◌≡◌, cond, ℕ, zero, suc, List, [], ◌∷◌, ◌++◌, map, replicate, Err, Ok}
 use Rattle.terms.specs.Refusals.{number_of, verdict_number}
 use Rattle.number.specs.declared.Edition.TheVariants.{First}
-use Rattle.number.specs.Number.{ceiling_of, number_at}
-use Rattle.number.specs.declared.Field.{Field}
-use Rattle.number.specs.declared.Field.TheVariants.{Value, Fault}
+use Rattle.number.specs.Number.{ceiling_of, number_at, Field}
 use Rattle.ties.specs.Operations.{is_committed, op_at}
 use Rattle.tables.specs.declared.Circles.TheVariants.{Permitted}
 use Rattle.closing.specs.Closing.{outstanding, closing}
 use Rattle.closing.specs.declared.NextStep.{NextStep}
 use Rattle.closing.specs.declared.NextStep.TheVariants.{NoStep, ToBegin, ToAbort}
 use Rattle.book.specs.declared.Reading.{Reading}
-use Rattle.book.specs.declared.Outcome.{Outcome}
-use Rattle.book.specs.declared.Outcome.TheVariants.{Wrote, Refuses}
 use Rattle.book.specs.Reading.{reading_of, reading_by}
-use Rattle.book.specs.Packing.{write_outcome}
+use Rattle.book.specs.Packing.{Outcome, write_outcome}
 
 -- ---- questions in bytes, and answers in the rules' numbers
 
@@ -33,8 +29,8 @@ pub data Answer : Type 0 where
   said : ℕ → ℕ → ℕ → ℕ → NextStep → Answer
 
 abbrev pub of_field : Field → Answer
-of_field (Value v next) = reads v
-of_field (Fault r p) = refused (number_of r)
+of_field (Ok (v, next)) = reads v
+of_field (Err f) = refused (number_of f.refusal)
 
 abbrev pub of_reading : Reading → Answer
 of_reading r = said (verdict_number r.answer) r.events r.place (outstanding r.tables r.state 0) (closing r.tables r.state 0)
@@ -169,8 +165,8 @@ refused_books =
     ∷ []
 
 abbrev pub outcome_number : Outcome → ℕ
-outcome_number (Wrote n) = 0
-outcome_number (Refuses r events place) = number_of r
+outcome_number (Ok n) = 0
+outcome_number (Err e) = number_of e.refusal
 
 -- and 19: the fields of a book that declares nothing, written into no room
 abbrev pub nothing_declared : List ℕ
@@ -281,8 +277,8 @@ listed_two =
     ∷ 0x01 ∷ 0x03 ∷ 0x00 ∷ []
 
 abbrev pub outcome_of : Outcome → List ℕ
-outcome_of (Wrote n) = 0 ∷ n ∷ []
-outcome_of (Refuses r events place) = number_of r ∷ events ∷ place ∷ []
+outcome_of (Ok n) = 0 ∷ n ∷ []
+outcome_of (Err e) = number_of e.refusal ∷ e.events ∷ e.place ∷ []
 
 pub record EditionCases : Type 0 where
   pub accepted : answer_of (reading_of listed_two) ≡ 0 ∷ 7 ∷ 0 ∷ []

@@ -4,10 +4,8 @@
 // number. What could not be read or written is said there too, and nothing else.
 #![tactic(auto)]
 
-use book::Outcome;
-use input::Filled;
-use script::Script;
-use std::io;
+use script::NotRead;
+use std::env::Env;
 use std::process::ExitCode;
 use terms::{Book, Refusal};
 
@@ -31,9 +29,8 @@ fn say_ends(rt: &impl Eprint, refusal: Refusal) {
 
 // Says which line of the text is refused: the one with which there are more fields than stand before the place.
 fn say_place(rt: &impl Eprint, text: &[u8], refusal: Refusal, place: usize, fields: &mut [u32]) {
-    let script = script::read(text, place, fields);
-    match script {
-        Script::More(number) => say_refused(rt, number, refusal),
+    match script::read(text, place, fields) {
+        Err(NotRead::More(number)) => say_refused(rt, number, refusal),
         _ => say_ends(rt, refusal),
     }
 }
@@ -45,16 +42,9 @@ fn say_why(rt: &impl Eprint, text: &[u8], refusal: Refusal, place: usize, fields
     }
 }
 
-// Writes the first bytes of a room.
-fn print(rt: &impl Print, room: &[u8], n: usize) -> io::Result<()> {
-    if room.len() < n {
-        return Err(io::Error::other("there is no room for it"));
-    }
-    rt.write_all(&room[..n])
-}
-
+// Writes the book at the front of a room.
 fn hand_out(rt: &(impl Print + Eprint), room: &[u8], n: usize) -> ExitCode {
-    match print(rt, room, n) {
+    match input::write_front(rt, room, Some(n)) {
         Ok(()) => ExitCode::SUCCESS,
         Err(reason) => input::not_written(rt, "writebook: the book was not written whole", reason),
     }
@@ -62,15 +52,15 @@ fn hand_out(rt: &(impl Print + Eprint), room: &[u8], n: usize) -> ExitCode {
 
 // Makes the book of the first fields, which a text says.
 fn make(rt: &(impl Print + Eprint), text: &[u8], n: usize, fields: &mut [u32]) -> ExitCode {
-    if fields.len() < n {
-        return ExitCode::SUCCESS;
-    }
     let mut room = [0u8; Book::BYTES];
-    let outcome = book::write(&fields[..n], &mut room);
+    let outcome = match fields.get(..n) {
+        Some(said) => book::write(said, &mut room),
+        None => return ExitCode::SUCCESS,
+    };
     match outcome {
-        Outcome::Wrote(size) => hand_out(rt, &room, size),
-        Outcome::Refuses(refusal, _, place) => {
-            say_why(rt, text, refusal, place, fields);
+        Ok(size) => hand_out(rt, &room, size),
+        Err(refused) => {
+            say_why(rt, text, refused.refusal, refused.place, fields);
             ExitCode::SUCCESS
         }
     }
@@ -79,12 +69,10 @@ fn make(rt: &(impl Print + Eprint), text: &[u8], n: usize, fields: &mut [u32]) -
 // No book has more fields than bytes. The room has as many places more as a form has fields.
 fn make_of(rt: &(impl Print + Eprint), text: &[u8]) -> ExitCode {
     let mut fields = [0u32; 65542];
-    let script = script::read(text, Book::BYTES, &mut fields);
-    match script {
-        Script::Fields(n) => return make(rt, text, n, &mut fields),
-        Script::NotUnderstood(number) => say_not_understood(rt, number),
-        Script::More(_) => say_too_long(rt),
-        Script::NoRoom => say_too_long(rt),
+    match script::read(text, Book::BYTES, &mut fields) {
+        Ok(n) => return make(rt, text, n, &mut fields),
+        Err(NotRead::NotUnderstood(number)) => say_not_understood(rt, number),
+        Err(NotRead::More(_) | NotRead::NoRoom) => say_too_long(rt),
     }
     ExitCode::SUCCESS
 }
@@ -101,11 +89,8 @@ fn make_from(rt: &(impl Print + Eprint), room: &[u8], n: usize) -> ExitCode {
 // Reads the text into a room and makes the book.
 fn write_by(rt: &(impl Input + Print + Eprint), room: &mut [u8]) -> ExitCode {
     match input::fill(&mut rt.reader(), room) {
-        Filled::Whole(n) => make_from(rt, room, n),
-        Filled::Failed(reason) => {
-            input::fail(rt, "writebook: the text was not read", reason);
-            ExitCode::SUCCESS
-        }
+        Ok(n) => make_from(rt, room, n),
+        Err(reason) => input::fail(rt, "writebook: the text was not read", reason),
     }
 }
 
@@ -115,7 +100,7 @@ fn write_input(rt: &(impl Input + Print + Eprint)) -> ExitCode {
 }
 
 fn main(rt: HostRuntime) -> ExitCode {
-    if input::has_word(&rt, 1) {
+    if input::is_word(rt.arg(1, &mut [])) {
         let _ = eprintln!(rt; "usage: writebook < TEXT > BOOK");
         return ExitCode::SUCCESS;
     }

@@ -9,9 +9,6 @@ use Rattle.cells.proofs.DirtyLaws.{not-read}
 use Rattle.cells.proofs.NextLaws.{any-skipped}
 use Rattle.cells.proofs.dirty.Goals as goal
 
-pub next_read-j-requires : goal.next_read-j-requires
-next_read-j-requires c = (omega arith, omega arith)
-
 pub loop-j-init : goal.loop-j-init
 loop-j-init c =
     let a = c.args in
@@ -25,12 +22,6 @@ returns-then-dirty_at c =
     let a = c.args in
     let l = c.loop-j in
     search-hit (dirty_at (ops_in a.ops.now a.n) a.t) (size (ops_in a.ops.now a.n)) l.j (c.dirty_at.ensures a.n) c.if-dirty_at.true (omega (arith, size_in a.ops.now a.n))
-
-pub next_read-j-requires-in-loop-j : goal.next_read-j-requires-in-loop-j
-next_read-j-requires-in-loop-j c = (omega arith, omega arith)
-
-pub loop-j-smaller : goal.loop-j-smaller
-loop-j-smaller c = omega (arith, c.next_read-j-in-loop-j.ensures.low)
 
 pub loop-j-preserved : goal.loop-j-preserved
 loop-j-preserved c =

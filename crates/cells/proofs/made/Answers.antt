@@ -13,9 +13,6 @@ returns-then-n-ge-MOST c =
     let a = c.args in
     made_none a.ops.now a.n a.op (sym c.fits.ensures ∙ c.if-not-fits.false) (omega arith)
 
-pub cell_of-requires : goal.cell_of-requires
-cell_of-requires c = sym c.fits.ensures ∙ c.if-not-fits.false
-
 pub returns : goal.returns
 returns c =
     let a = c.args in

@@ -9,7 +9,7 @@ use Rattle.cells.proofs.must_wait.Invariants.{waits}
 use Rattle.cells.proofs.must_wait.Goals as goal
 
 pub loop-i-init : goal.loop-i-init
-loop-i-init c = (omega arith, any_none _)
+loop-i-init c = any_none _
 
 pub returns-then-awaited_by : goal.returns-then-awaited_by
 unfolding must_wait
@@ -24,11 +24,11 @@ loop-i-preserved c =
     let a = c.args in
     let l = c.loop-i in
     let told = c.awaited_by.ensures ∙ ap (waits_for a.t a.object a.mark) (c.op_in-p.ensures ∙ sym (op-at a.ops.now a.n l.i)) in
-    (omega arith, search-miss (waits a.ops.now a.n a.t a.object a.mark) l.i l.invariant.1 told c.if-awaited_by.false)
+    search-miss (waits a.ops.now a.n a.t a.object a.mark) l.i l.invariant told c.if-awaited_by.false
 
 pub returns : goal.returns
 unfolding must_wait
 returns c =
     let a = c.args in
     let l = c.loop-i in
-    search-end (waits a.ops.now a.n a.t a.object a.mark) (size (ops_in a.ops.now a.n)) l.i l.invariant.1 (omega (arith, size_in a.ops.now a.n))
+    search-end (waits a.ops.now a.n a.t a.object a.mark) (size (ops_in a.ops.now a.n)) l.i l.invariant (omega (arith, size_in a.ops.now a.n))

@@ -1,4 +1,4 @@
-use Prim.Native.Nat.{ℕ, ◌-◌, ◌≤◌}
+use Prim.Native.Nat.{ℕ}
 use mathlib.Core.Path.{◌≡◌}
 use mathlib.Core.List.{List}
 use mathlib.Core.Bool.{Bool, false}
@@ -15,7 +15,4 @@ waits l n t object mark i = waits_for t object mark (op_at (ops_in l n) i)
 
 -- none of the first i is
 abbrev pub invariant-loop-i : goal.invariant-loop-i
-invariant-loop-i l = (l.i ≤ l.all) × (any_below l.i (waits l.ops l.n l.t l.object l.mark) ≡ false)
-
-abbrev pub decreases-loop-i : goal.decreases-loop-i
-decreases-loop-i l = l.all - l.i
+invariant-loop-i l = any_below l.i (waits l.ops l.n l.t l.object l.mark) ≡ false

@@ -1,6 +1,6 @@
 use mathlib.Core.Path.{◌≡◌}
 use mathlib.Core.Bool.{Bool, not, ◌&&◌}
-use Prim.Native.Nat.{ℕ, ◌+◌, ◌-◌, ◌≤◌}
+use Prim.Native.Nat.{ℕ, ◌+◌, ◌-◌}
 use Rattle.laws.specs.Index.{highest}
 use Rattle.rules.specs.States.{is_committed, own}
 use Rattle.rules.specs.declared.Phase.{Phase}
@@ -11,7 +11,4 @@ abbrev pub due : ℕ → (ℕ → Phase) → ℕ → Bool
 due n P i = is_committed (P i) && not (is_committed (P (n + i)))
 
 abbrev pub invariant-loop-i : goal.invariant-loop-i
-invariant-loop-i l = (l.i ≤ l.n - 1) × (highest (l.n - 1) (due l.n (own l.transactions l.first)) ≡ highest l.i (due l.n (own l.transactions l.first)))
-
-abbrev pub decreases-loop-i : goal.decreases-loop-i
-decreases-loop-i l = l.i
+invariant-loop-i g l = highest (l.n - 1) (due l.n (own (g.S.Standing.transactions l.stand) l.first)) ≡ highest (l.i - 1) (due l.n (own (g.S.Standing.transactions l.stand) l.first))

@@ -5,9 +5,9 @@ use Rattle.closing.specs.Closing.{owed_by}
 use Rattle.closing.proofs.owed.Goals as goal
 
 pub returns-then-is_committed : goal.returns-then-is_committed
-returns-then-is_committed c =
-    rw (told is_committed c.before.before.before.is_committed.ensures c.before.before.before.before.own-step.ensures c.before.before.if-is_committed.true)
-    (c.owed_by.ensures ∙ ap owed_by c.before.own-undo.ensures)
+returns-then-is_committed g c =
+    rw (told is_committed c.is_committed.ensures c.own-step.ensures c.if-is_committed.true)
+    (c.owed_by.ensures ∙ ap owed_by c.own-undo.ensures)
 
 pub returns : goal.returns
-returns c = rw (told is_committed c.before.is_committed.ensures c.before.before.own-step.ensures c.if-is_committed.false)
+returns g c = rw (told is_committed c.is_committed.ensures c.own-step.ensures c.if-is_committed.false)

@@ -6,7 +6,4 @@ use Rattle.closing.specs.Closing.{owed}
 use Rattle.closing.proofs.owed_by_steps.Given as goal
 
 abbrev pub invariant-loop-i : goal.invariant-loop-i
-invariant-loop-i l = (1 ≤ l.i) × (l.i - 1 ≤ l.n - 1) × (l.sum ≡ sum_to (l.i - 1) (owed l.n (own l.transactions l.first)))
-
-abbrev pub decreases-loop-i : goal.decreases-loop-i
-decreases-loop-i l = l.n - l.i
+invariant-loop-i g l = (l.i - 1 ≤ l.n - 1) × (l.sum ≡ sum_to (l.i - 1) (owed l.n (own (g.S.Standing.transactions l.stand) l.first)))

@@ -6,18 +6,16 @@ use Rattle.closing.proofs.ReturnLaws.{settled-unlisted, settled_at}
 use Rattle.closing.proofs.settled.Goals as goal
 
 pub returns-then-not-is_listed : goal.returns-then-not-is_listed
-returns-then-not-is_listed c =
-    let a = c.before.before.args in
-    settled-unlisted a.tables a.state a.saga c.before.is_listed.ensures c.if-not-is_listed.true
+returns-then-not-is_listed c = settled-unlisted c.args.tables c.args.state c.args.saga c.is_listed.ensures c.if-not-is_listed.true
 
 pub returns : goal.returns
 returns c =
-    let a = c.before.before.before.before.before.before.before.before.before.args in
-    let s = c.before.before.before.before.before.saga_at-s in
-    let p = c.before.before.before.before.own-phase in
+    let a = c.args in
+    let s = c.saga_at-s in
+    let p = c.own-phase in
     ap₂ (λ (x y : Bool). x || y)
-    c.before.is_committed.ensures
+    c.is_committed.ensures
     (ap₂ (λ (x y : Bool). x && y)
     c.is_aborted.ensures
-    (ap₂ (λ (k : ℕ) (y : Bool). eqb k 0 && y) c.before.before.before.active_step-active.ensures c.before.before.all_undone-undone.ensures))
-    ∙ settled_at a.tables a.state a.saga c.before.before.before.before.before.before.before.before.is_listed.ensures c.before.before.before.before.before.before.before.if-not-is_listed.false s.result s.ensures p.result p.ensures
+    (ap₂ (λ (k : ℕ) (y : Bool). eqb k 0 && y) c.active_step-active.ensures c.all_undone-undone.ensures))
+    ∙ settled_at a.tables a.state a.saga c.is_listed.ensures c.if-not-is_listed.false s.result s.ensures p.result p.ensures

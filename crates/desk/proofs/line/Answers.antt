@@ -1,7 +1,6 @@
 use mathlib.Core.Path.{refl, ◌∙◌}
 use Rattle.desk.proofs.StandLaws.{is_whole}
 use Rattle.desk.proofs.QuestionLaws.{line-there}
-use borrow.Author.Rules.{rules}
 use Rattle.desk.proofs.line.Goals as goal
 
 pub returns : goal.returns

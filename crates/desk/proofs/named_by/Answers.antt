@@ -1,52 +1,42 @@
-use borrow.Author.Tests.{ne_eqb}
-use Rattle.desk.specs.Desk.{named_by}
-use borrow.Author.Rules.{rules}
+use Prim.Native.Nat.{ℕ}
+use mathlib.Core.Path.{sym, ap, ◌∙◌}
+use Rattle.std.specs.Prelude.{Option, Result, Ok}
+use Rattle.items.specs.Items.{meaning}
+use Rattle.items.specs.declared.EventSort.{EventSort}
+use Rattle.desk.specs.declared.Unnamed.{Unnamed}
+use Rattle.desk.proofs.SortLaws.{beside, by_sort, named-by-sort}
 use Rattle.desk.proofs.named_by.Goals as goal
 
-pub returns-in-1 : goal.returns-in-1
-unfolding named_by
-returns-in-1 c = rw c.in-1.is
-
-pub returns-in-2 : goal.returns-in-2
-unfolding named_by
-returns-in-2 c = rw c.in-2.is
-
-pub returns-in-3 : goal.returns-in-3
-unfolding named_by
-returns-in-3 c = rw c.in-3.is
-
-pub returns-in-4 : goal.returns-in-4
-unfolding named_by
-returns-in-4 c = rw c.in-4.is c.operation_by.ensures
-
-pub returns-in-5 : goal.returns-in-5
-unfolding named_by
-returns-in-5 c = rw c.in-5.is
-
-pub returns-in-6 : goal.returns-in-6
-unfolding named_by
-returns-in-6 c = rw c.in-6.is
-
-pub returns-in-7 : goal.returns-in-7
-unfolding named_by
-returns-in-7 c = rw c.in-7.is
-
-pub returns-in-8 : goal.returns-in-8
-unfolding named_by
-returns-in-8 c = rw c.in-8.is
-
 pub returns-in_default : goal.returns-in_default
-unfolding named_by
 returns-in_default c =
-    let n = c.args.code in
-    let r = c.in_default.in_default-own.rest in
-    rw (
-      ne_eqb n 1 r.0.0.0.0.0.0.0.1,
-      ne_eqb n 2 r.0.0.0.0.0.0.1,
-      ne_eqb n 3 r.0.0.0.0.0.1,
-      ne_eqb n 4 r.0.0.0.0.1,
-      ne_eqb n 5 r.0.0.0.1,
-      ne_eqb n 6 r.0.0.1,
-      ne_eqb n 7 r.0.1,
-      ne_eqb n 8 r.1,
+    let a = c.args in
+    sym (named-by-sort a.edition a.code a.a a.b a.c a.d ∙ ap (λ (x : Option EventSort). by_sort a.edition x a.a a.b a.c a.d) (sym c.code_of.ensures ∙ c.in_default.is))
+
+pub returns-in-Err : goal.returns-in-Err
+returns-in-Err c =
+    let a = c.args in
+    sym (
+    named-by-sort a.edition a.code a.a a.b a.c a.d
+    ∙ ap (λ (x : Option EventSort). by_sort a.edition x a.a a.b a.c a.d) (sym c.code_of.ensures ∙ c.in-Some.is)
+    ∙ ap (λ (r : Result ℕ Unnamed). beside r (meaning c.in-Some.sort a.a a.b a.c)) (sym c.record_beside.ensures ∙ c.in-Err.is)
+    )
+
+pub returns-in_default-meaning : goal.returns-in_default-meaning
+returns-in_default-meaning c =
+    let a = c.args in
+    sym (
+    named-by-sort a.edition a.code a.a a.b a.c a.d
+    ∙ ap (λ (x : Option EventSort). by_sort a.edition x a.a a.b a.c a.d) (sym c.code_of.ensures ∙ c.in-Some.is)
+    ∙ ap (λ (r : Result ℕ Unnamed). beside r (meaning c.in-Some.sort a.a a.b a.c)) (sym c.record_beside.ensures ∙ c.in-Ok.is)
+    ∙ ap (beside (Ok c.in-Ok.pupil)) (sym c.meaning.ensures ∙ c.in_default-meaning.is)
+    )
+
+pub returns : goal.returns
+returns c =
+    let a = c.args in
+    sym (
+    named-by-sort a.edition a.code a.a a.b a.c a.d
+    ∙ ap (λ (x : Option EventSort). by_sort a.edition x a.a a.b a.c a.d) (sym c.code_of.ensures ∙ c.in-Some.is)
+    ∙ ap (λ (r : Result ℕ Unnamed). beside r (meaning c.in-Some.sort a.a a.b a.c)) (sym c.record_beside.ensures ∙ c.in-Ok.is)
+    ∙ ap (beside (Ok c.in-Ok.pupil)) (sym c.meaning.ensures ∙ c.in-Some-meaning.is)
     )

@@ -1,5 +1,4 @@
 use Rattle.desk.proofs.StandLaws.{opened}
-use borrow.Author.Rules.{rules}
 use Rattle.desk.proofs.open_on.Goals as goal
 
 pub returns : goal.returns

@@ -1,6 +1,5 @@
 use native.Mathlib.Omega.{arith}
 use Rattle.desk.proofs.QuestionLaws.{operation-none, operation-there}
-use borrow.Author.Rules.{rules}
 use Rattle.desk.proofs.operation.Goals as goal
 
 pub returns-then-i-all : goal.returns-then-i-all

@@ -2,7 +2,6 @@ use mathlib.Core.Path.{ap, ◌∙◌}
 use Rattle.report.specs.Report.{report_of}
 use Rattle.report.specs.declared.Report.{Report}
 use Rattle.desk.proofs.StandLaws.{is_whole, state-is}
-use borrow.Author.Rules.{rules}
 use Rattle.desk.proofs.pairs.Goals as goal
 
 pub returns : goal.returns

@@ -1,5 +1,4 @@
 use Rattle.desk.proofs.QuestionLaws.{phase-known, phase-none}
-use borrow.Author.Rules.{rules}
 use Rattle.desk.proofs.phase.Goals as goal
 
 pub returns-then-is_known : goal.returns-then-is_known

@@ -3,7 +3,6 @@ use Rattle.ties.specs.declared.Ops.{Ops}
 use Rattle.replay.specs.Replay.{copy_answer, copy_room, order_of}
 use Rattle.desk.proofs.QuestionLaws.{ops-are}
 use Rattle.desk.proofs.StandLaws.{is_whole}
-use borrow.Author.Rules.{rules}
 use Rattle.desk.proofs.replay.Goals as goal
 
 pub returns : goal.returns

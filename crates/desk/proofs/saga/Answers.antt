@@ -1,7 +1,6 @@
 use mathlib.Core.Path.{◌∙◌}
 use Rattle.desk.proofs.StandLaws.{is_whole}
 use Rattle.desk.proofs.QuestionLaws.{saga-is}
-use borrow.Author.Rules.{rules}
 use Rattle.desk.proofs.saga.Goals as goal
 
 pub returns : goal.returns

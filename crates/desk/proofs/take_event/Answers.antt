@@ -1,7 +1,6 @@
 use mathlib.Core.Path.{sym, ap, ◌∙◌}
 use Rattle.terms.specs.Refusals.{verdict_number}
 use Rattle.desk.proofs.StandLaws.{denied, took, verdict-is}
-use borrow.Author.Rules.{rules}
 use Rattle.desk.proofs.take_event.Goals as goal
 
 pub returns-in-Accepted : goal.returns-in-Accepted

@@ -1,5 +1,4 @@
 use Rattle.desk.proofs.QuestionLaws.{tally-is}
-use borrow.Author.Rules.{rules}
 use Rattle.desk.proofs.tally.Goals as goal
 
 pub returns : goal.returns

@@ -13,6 +13,6 @@ returns c tables h k =
     let s = state_in a.transactions.now a.ops.now a.n in
     let e = r.ensures tables h k in (
       ap (λ (x : Ruling). x.verdict) e,
-      c.changed-count.ensures (subst⁻¹ (λ (x : Ruling). Fitting x.change) e (ruling-fits tables a.sheet.now h s a.event))
+      c.changed.ensures (subst⁻¹ (λ (x : Ruling). Fitting x.change) e (ruling-fits tables a.sheet.now h s a.event))
           ∙ ap (λ (x : Ruling). state_after x.change s) e,
     )

@@ -12,35 +12,27 @@ use borrow.Author.Rules.{rules}
 use Rattle.left.proofs.left_of.Goals as goal
 
 -- what one saga owes
-small : (c : goal.After-outstanding-more) → c.outstanding-more.result ≤ 600
+small : (c : goal.After-outstanding-sum) → c.outstanding-sum.result ≤ 600
 small c =
-    let a = c.before.before.before.before.args in
-    let l = c.before.before.loop-i in
+    let a = c.args in
+    let l = c.loop-i in
     let b : Fits w8 (get_or a.tables.steps l.i 0) = search rules in
-    omega (arith, outstanding-le a.tables a.state l.i (omega arith), c.outstanding-more.ensures)
+    omega (arith, outstanding-le a.tables a.state l.i (omega arith), c.outstanding-sum.ensures)
 
 pub loop-i-init : goal.loop-i-init
-loop-i-init c = (omega arith, c.saga_count-sagas.ensures, omega arith, below_none _ _)
+loop-i-init c = (c.saga_count-sagas.ensures, omega arith, below_none _ _)
 
 pub overflow_add-sum : goal.overflow_add-sum
 overflow_add-sum c = omega (arith, small c)
 
-pub overflow_add-i : goal.overflow_add-i
-overflow_add-i c = omega arith
-
-pub loop-i-smaller : goal.loop-i-smaller
-loop-i-smaller c = omega arith
-
 pub loop-i-preserved : goal.loop-i-preserved
 loop-i-preserved c =
-    let a = c.before.before.before.before.args in
-    let l = c.before.before.loop-i in
-    (omega arith, l.invariant.1, omega (arith, small c), ap₂ ◌+◌ l.invariant.3 c.outstanding-more.ensures ∙ below_more a.tables a.state l.i)
+    let l = c.loop-i in
+    (l.invariant.0, omega (arith, small c), ap₂ ◌+◌ l.invariant.2 c.outstanding-sum.ensures ∙ below_more c.args.tables c.args.state l.i)
 
 pub returns : goal.returns
 unfolding left_in
 returns c =
-    let a = c.before.before.before.args in
-    let l = c.before.loop-i in
-    let e : l.i ≡ saga_count a.tables = omega arith in
-    l.invariant.3 ∙ ap (owed_below a.tables a.state) e
+    let l = c.loop-i in
+    let e : l.i ≡ saga_count c.args.tables = omega arith in
+    l.invariant.2 ∙ ap (owed_below c.args.tables c.args.state) e

@@ -13,7 +13,7 @@ returns c tables h =
       e.0,
       (
         e.1,
-        c.moved-sum.ensures
+        c.moved.ensures
             ∙ sum_moved tables a.sheet.now h a.event c.moves_on-sort.result c.moves_on-sort.ensures s s' e.1 a.left
             c.owed_by_sort-before.result c.owed_by_sort-after.result c.owed_by_sort-before.ensures c.owed_by_sort-after.ensures,
       ),

@@ -4,8 +4,8 @@ use Prim.Native.Nat.{ℕ}
 use mathlib.Core.Path.{sym, ap}
 use lib.Dec.{leb}
 use lib.ListN.{length}
-use Rattle.listing.specs.Lines.{listing_of}
-use Rattle.listing.proofs.WholeLaws.{listed, listed-short}
+use Rattle.listing.specs.Lines.{listed, listing_of}
+use Rattle.listing.proofs.WholeLaws.{listed-short}
 use Rattle.listing.proofs.holds.Goals as goal
 
 pub returns-then-room-ge-MOST : goal.returns-then-room-ge-MOST

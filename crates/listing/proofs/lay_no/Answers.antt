@@ -7,11 +7,16 @@ use Rattle.terms.specs.Refusals.{number_of}
 use Rattle.listing.specs.Lines.{no_line}
 use Rattle.listing.specs.Words.{decimal}
 use Rattle.listing.proofs.LayLaws.{byte-laid, lays-no, no-long}
+use Rattle.listing.proofs.lay_no.Goals.{After-digits-wide, After-lay_number}
 use Rattle.listing.proofs.lay_no.Goals as goal
 
 -- three letters are laid
 abbrev front : List ℕ → ℕ → List ℕ
 front room at = set (set (set room at 110) (at + 1) 111) (at + 2) 32
+
+-- which keeps the length of the room
+front-long : (room : List ℕ) (at : ℕ) → length (front room at) ≡ length room
+front-long room at = simp length-set refl
 
 second : (k : ℕ) → k + 2 ≡ k + 1 + 1
 second k = omega arith
@@ -19,44 +24,40 @@ second k = omega arith
 third : (k : ℕ) → k + 3 ≡ k + 2 + 1
 third k = omega arith
 
-pub overflow_add-blank : goal.overflow_add-blank
-overflow_add-blank c =
+-- the line ends where it is as long as it is to be
+ends-at : (c : After-digits-wide) → c.args.at + 3 + c.digits-long.result + 1 + c.digits-wide.result + 1 ≡ c.args.at + length (no_line c.args.no)
+ends-at c =
     let wide_is : c.digits-wide.result ≡ length (decimal (number_of c.args.no.refusal)) =
     c.digits-wide.ensures ∙ ap (λ (k : ℕ). length (decimal k)) c.number-number.ensures in
-    let ends : c.args.at + 3 + c.digits-long.result + 1 + c.digits-wide.result + 1 ≡ c.args.at + length (no_line c.args.no) =
-    omega (arith, no-long c.args.no, c.digits-long.ensures, wide_is) in
+    omega (arith, no-long c.args.no, c.digits-long.ensures, wide_is)
+
+-- and behind the first number too the room has its length
+second-at : (c : After-lay_number) → length (set c.lay_number.new.room (c.args.at + 3 + c.digits-long.result) 32) ≡ length c.args.room.now
+second-at c = simp length-set (c.lay_number.auto.room ∙ front-long c.args.room.now c.args.at)
+
+pub overflow_add-blank : goal.overflow_add-blank
+overflow_add-blank c =
+    let ends = ends-at (goal.at.overflow_add-blank c).After-digits-wide in
     omega (arith, ends, c.requires)
 
 pub overflow_add-second : goal.overflow_add-second
 overflow_add-second c =
-    let wide_is : c.digits-wide.result ≡ length (decimal (number_of c.args.no.refusal)) =
-    c.digits-wide.ensures ∙ ap (λ (k : ℕ). length (decimal k)) c.number-number.ensures in
-    let ends : c.args.at + 3 + c.digits-long.result + 1 + c.digits-wide.result + 1 ≡ c.args.at + length (no_line c.args.no) =
-    omega (arith, no-long c.args.no, c.digits-long.ensures, wide_is) in
+    let ends = ends-at (goal.at.overflow_add-second c).After-digits-wide in
     omega (arith, ends, c.requires)
 
 pub overflow_add-feed : goal.overflow_add-feed
 overflow_add-feed c =
-    let wide_is : c.digits-wide.result ≡ length (decimal (number_of c.args.no.refusal)) =
-    c.digits-wide.ensures ∙ ap (λ (k : ℕ). length (decimal k)) c.number-number.ensures in
-    let ends : c.args.at + 3 + c.digits-long.result + 1 + c.digits-wide.result + 1 ≡ c.args.at + length (no_line c.args.no) =
-    omega (arith, no-long c.args.no, c.digits-long.ensures, wide_is) in
+    let ends = ends-at (goal.at.overflow_add-feed c).After-digits-wide in
     omega (arith, ends, c.requires)
 
 pub overflow_add-end : goal.overflow_add-end
 overflow_add-end c =
-    let wide_is : c.digits-wide.result ≡ length (decimal (number_of c.args.no.refusal)) =
-    c.digits-wide.ensures ∙ ap (λ (k : ℕ). length (decimal k)) c.number-number.ensures in
-    let ends : c.args.at + 3 + c.digits-long.result + 1 + c.digits-wide.result + 1 ≡ c.args.at + length (no_line c.args.no) =
-    omega (arith, no-long c.args.no, c.digits-long.ensures, wide_is) in
+    let ends = ends-at (goal.at.overflow_add-end c).After-digits-wide in
     omega (arith, ends, c.requires)
 
 pub returns-then-room-end : goal.returns-then-room-end
 returns-then-room-end c =
-    let wide_is : c.digits-wide.result ≡ length (decimal (number_of c.args.no.refusal)) =
-    c.digits-wide.ensures ∙ ap (λ (k : ℕ). length (decimal k)) c.number-number.ensures in
-    let ends : c.args.at + 3 + c.digits-long.result + 1 + c.digits-wide.result + 1 ≡ c.args.at + length (no_line c.args.no) =
-    omega (arith, no-long c.args.no, c.digits-long.ensures, wide_is) in
+    let ends = ends-at (goal.at.returns-then-room-end c).After-digits-wide in
     (ends, λ fits. absurd (omega arith))
 
 pub bounds-room-letter : goal.bounds-room-letter
@@ -67,44 +68,32 @@ bounds-room-space c = simp length-set (omega arith)
 
 pub lay_number-requires : goal.lay_number-requires
 lay_number-requires c =
-    let front_long : length (front c.args.room.now c.args.at) ≡ length c.args.room.now =
-    simp length-set refl in
+    let front_long = front-long c.args.room.now c.args.at in
     (c.digits-long.ensures, omega (arith, front_long))
 
 pub bounds-room-blank : goal.bounds-room-blank
 bounds-room-blank c =
-    let front_long : length (front c.args.room.now c.args.at) ≡ length c.args.room.now =
-    simp length-set refl in
+    let front_long = front-long c.args.room.now c.args.at in
     omega (arith, c.lay_number.auto.room, front_long)
 
 pub lay_number-requires-2 : goal.lay_number-requires-2
 lay_number-requires-2 c =
-    let front_long : length (front c.args.room.now c.args.at) ≡ length c.args.room.now =
-    simp length-set refl in
+    let front_long = front-long c.args.room.now c.args.at in
     (c.digits-wide.ensures, simp length-set (omega (arith, c.lay_number.auto.room, front_long)))
 
 pub bounds-room-feed : goal.bounds-room-feed
 bounds-room-feed c =
-    let front_long : length (front c.args.room.now c.args.at) ≡ length c.args.room.now =
-    simp length-set refl in
-    let second-long : length (set c.lay_number.new.room (c.args.at + 3 + c.digits-long.result) 32) ≡ length c.args.room.now =
-    simp length-set (c.lay_number.auto.room ∙ front_long) in
+    let second-long = second-at (goal.at.bounds-room-feed c).After-lay_number in
     omega (arith, c.lay_number-2.auto.room, second-long)
 
 pub shape_of-room : goal.shape_of-room
 shape_of-room c =
-    let front_long : length (front c.args.room.now c.args.at) ≡ length c.args.room.now =
-    simp length-set refl in
-    let second-long : length (set c.lay_number.new.room (c.args.at + 3 + c.digits-long.result) 32) ≡ length c.args.room.now =
-    simp length-set (c.lay_number.auto.room ∙ front_long) in
+    let second-long = second-at (goal.at.shape_of-room c).After-lay_number in
     simp length-set (c.lay_number-2.auto.room ∙ second-long)
 
 pub returns : goal.returns
 returns c =
-    let wide_is : c.digits-wide.result ≡ length (decimal (number_of c.args.no.refusal)) =
-    c.digits-wide.ensures ∙ ap (λ (k : ℕ). length (decimal k)) c.number-number.ensures in
-    let ends : c.args.at + 3 + c.digits-long.result + 1 + c.digits-wide.result + 1 ≡ c.args.at + length (no_line c.args.no) =
-    omega (arith, no-long c.args.no, c.digits-long.ensures, wide_is) in
+    let ends = ends-at (goal.at.returns c).After-digits-wide in
     let a = c.args in
     let room = a.room.now in
     let x = a.no in

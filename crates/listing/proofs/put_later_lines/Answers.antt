@@ -13,33 +13,31 @@ pub loop-k-init : goal.loop-k-init
 loop-k-init c =
     let a = c.args in
     let r = a.judgement in
-    (omega arith, omega (arith, c.line_count-lines.ensures, some-line r), c.line_count-lines.ensures, refl, laying-start a.at (lines_from r 1 (line_count r - 1)) a.room.now)
+    (c.line_count-lines.ensures, refl, laying-start a.at (lines_from r 1 (line_count r - 1)) a.room.now)
 
 pub put_at-end-requires : goal.put_at-end-requires
 put_at-end-requires c =
     let one_more : let r = c.args.judgement in let k = c.loop-k.k in lines_from r k (line_count r - k) ≡ line_of r k ++ lines_from r (k + 1) (line_count r - (k + 1)) =
-    let l = c.loop-k in lines_step _ l.k _ _ (omega (arith, l.invariant.2)) in
+    let l = c.loop-k in lines_step _ l.k _ _ (omega (arith, l.invariant.0)) in
     let l = c.loop-k in
-    let next = laying-next (line_of c.args.judgement l.k) _ (laying-same l.invariant.4 one_more) in
+    let next = laying-next (line_of c.args.judgement l.k) _ (laying-same l.invariant.2 one_more) in
     omega (arith, next, c.requires, ap length c.line-text.ensures)
-
-pub loop-k-smaller : goal.loop-k-smaller
-loop-k-smaller c = omega arith
 
 pub loop-k-preserved : goal.loop-k-preserved
 loop-k-preserved c =
     let one_more : let r = c.args.judgement in let k = c.loop-k.k in lines_from r k (line_count r - k) ≡ line_of r k ++ lines_from r (k + 1) (line_count r - (k + 1)) =
-    let l = c.loop-k in lines_step _ l.k _ _ (omega (arith, l.invariant.2)) in
+    let l = c.loop-k in lines_step _ l.k _ _ (omega (arith, l.invariant.0)) in
     let a = c.args in
     let l = c.loop-k in
     let p = c.put_at-end in
     let line = subst (λ (t : List ℕ). Lays l.end t l.room p.result p.new.room) c.line-text.ensures p.ensures in (
-      omega arith,
-      omega arith,
-      l.invariant.2,
-      p.auto.room ∙ l.invariant.3,
-      laying-more (line_of a.judgement l.k) _ p.result p.new.room (laying-same l.invariant.4 one_more) line p.auto.room,
+      l.invariant.0,
+      p.auto.room ∙ l.invariant.1,
+      laying-more (line_of a.judgement l.k) _ p.result p.new.room (laying-same l.invariant.2 one_more) line p.auto.room,
     )
 
 pub returns : goal.returns
-returns c = let l = c.loop-k in laying-done l.invariant.4 (lines_end c.args.judgement l.k _ (omega (arith, l.invariant.2)))
+returns c =
+    let l = c.loop-k in
+    let r = c.args.judgement in
+    laying-done l.invariant.2 (lines_end r l.k _ (omega (arith, l.invariant.0, some-line r)))

@@ -1,4 +1,4 @@
-use Prim.Native.Nat.{◌-◌, ◌≤◌}
+use Prim.Native.Nat.{◌-◌}
 use mathlib.Core.Path.{◌≡◌}
 use lib.ListN.{length}
 use Rattle.onward.proofs.RoomLaws.{Laying}
@@ -7,8 +7,5 @@ use Rattle.listing.proofs.put_later_lines.Given as goal
 
 abbrev pub invariant-loop-k : goal.invariant-loop-k
 invariant-loop-k l =
-    (1 ≤ l.k) × (l.k ≤ l.lines) × (l.lines ≡ line_count l.judgement) × (length l.room ≡ length l.initial.room)
+    (l.lines ≡ line_count l.judgement) × (length l.room ≡ length l.initial.room)
     × Laying l.at (lines_from l.judgement 1 (line_count l.judgement - 1)) l.initial.room l.end (lines_from l.judgement l.k (line_count l.judgement - l.k)) l.room
-
-abbrev pub decreases-loop-k : goal.decreases-loop-k
-decreases-loop-k l = l.lines - l.k

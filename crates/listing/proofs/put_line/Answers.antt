@@ -1,4 +1,4 @@
-use mathlib.Core.Path.{sym, ap, ◌∙◌}
+use mathlib.Core.Path.{ap, ◌∙◌}
 use mathlib.Core.List.{List}
 use Prim.Native.Nat.{ℕ}
 use native.Mathlib.Omega.{arith}
@@ -12,24 +12,13 @@ returns-then-lines-k c =
     let a = c.args in
     place_none a.judgement a.k a.room.now (omega (arith, c.line_count-lines.ensures, c.if-lines-k.true))
 
-pub returns-in-Wrote : goal.returns-in-Wrote
-returns-in-Wrote c =
+pub returns : goal.returns
+returns c =
     let a = c.args in
     let room = a.room.now in
     let p = c.put in
     let l = c.line-text in
     let there = place-there a.judgement a.k room (omega (arith, c.line_count-lines.ensures, c.if-lines-k.false)) in (
-      ap placed (sym c.in-Wrote.is ∙ p.ensures.0 ∙ ap (λ (x : List ℕ). put_answer x room) l.ensures) ∙ there.0,
-      p.ensures.1 ∙ ap (λ (x : List ℕ). put_room x room) l.ensures ∙ there.1,
-    )
-
-pub returns-in-NoRoom : goal.returns-in-NoRoom
-returns-in-NoRoom c =
-    let a = c.args in
-    let room = a.room.now in
-    let p = c.put in
-    let l = c.line-text in
-    let there = place-there a.judgement a.k room (omega (arith, c.line_count-lines.ensures, c.if-lines-k.false)) in (
-      ap placed (sym c.in-NoRoom.is ∙ p.ensures.0 ∙ ap (λ (x : List ℕ). put_answer x room) l.ensures) ∙ there.0,
+      c.ok_or.ensures.value ∙ ap placed (p.ensures.0 ∙ ap (λ (x : List ℕ). put_answer x room) l.ensures) ∙ there.0,
       p.ensures.1 ∙ ap (λ (x : List ℕ). put_room x room) l.ensures ∙ there.1,
     )

@@ -7,9 +7,9 @@ use Rattle.onward.specs.Rooms.{Lays}
 use Rattle.onward.proofs.RoomLaws.{Laying, laying-last, laying-more, laying-next, laying-same, laying-start}
 use Rattle.onward.specs.declared.Judgement.{Judgement}
 use Rattle.onward.specs.declared.No.{No}
-use Rattle.listing.specs.Lines.{line_count, line_of, lines_from, listing_of, no_lines}
+use Rattle.listing.specs.Lines.{line_count, line_of, lines_from, listed, listing_of, no_lines}
 use Rattle.listing.proofs.StepLaws.{parts}
-use Rattle.listing.proofs.WholeLaws.{listed, listed-short}
+use Rattle.listing.proofs.WholeLaws.{listed-short}
 use Rattle.listing.proofs.put_lines.Goals as goal
 
 -- nothing was laid yet; then the first line; then those of refused events

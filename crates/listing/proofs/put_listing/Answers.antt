@@ -4,9 +4,9 @@ use mathlib.Core.List.{List}
 use Rattle.tables.specs.Reading.{edition_of}
 use Rattle.onward.specs.Onward.{judgement_by}
 use Rattle.onward.specs.declared.Judgement.{Judgement}
-use Rattle.listing.specs.Lines.{listing_of}
+use Rattle.listing.specs.Lines.{listed, listing_of}
 use Rattle.listing.specs.Texts.{put_answer, put_room}
-use Rattle.listing.proofs.WholeLaws.{all_listed, listed}
+use Rattle.listing.proofs.WholeLaws.{all_listed}
 use Rattle.listing.proofs.put_listing.Goals as goal
 
 pub returns : goal.returns

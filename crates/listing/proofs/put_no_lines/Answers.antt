@@ -12,7 +12,7 @@ use Rattle.tables.specs.Sorts.{number_of_all}
 use Rattle.tables.specs.declared.Circles.{Circles}
 use Rattle.tables.specs.declared.TablesRead.{TablesRead}
 use Rattle.tables.proofs.AcceptedWellHolds.{accepted-well}
-use Rattle.tables.specs.declared.TablesAnswer.TheVariants.{Read}
+use Rattle.std.specs.Prelude.{Ok}
 use Rattle.onward.specs.Onward.{refused_by, refused_from}
 use Rattle.onward.specs.Rooms.{Lays}
 use Rattle.onward.specs.declared.No.{No}
@@ -29,7 +29,7 @@ tables-are circles book ed read e same = e ∙ ap (λ (x : Edition). tables_by c
 
 -- and the refused events are those that a book of that edition has from its first event on
 refused-are : (circles : Circles) (book : List ℕ) (ed : Edition) (read : TablesRead) → read ≡ tables_by circles ed book → ed ≡ edition_of book
-    → (start : ℕ) → length book ≤ most_bytes → read.answer ≡ Read start
+    → (start : ℕ) → length book ≤ most_bytes → read.answer ≡ Ok start
     → refused_from read.tables empty_state 0 (items_after ed book start) ≡ refused_by circles (edition_of book) book
 refused-are circles book ed read e same start short answer =
     ap (λ (x : Edition). refused_from read.tables empty_state 0 (items_after x book start)) same
@@ -48,26 +48,26 @@ put_no_lines_from-requires c =
     let a = c.args in
     let read = c.read_tables-read in
     let ed = c.edition_of-edition in
-    let answer = c.in-Read.is in
+    let answer = c.in-Ok.is in
     let same = tables-are a.circles a.book.now ed.result read.result read.ensures ed.ensures in
     let accepted = ap (λ (x : TablesRead). x.answer) (sym same) ∙ answer in
     let few = subst⁻¹ (λ (x : TablesRead). number_of_all x.tables ≤ most_transactions) same (accepted-well a.circles (edition_of a.book.now) a.book.now _ accepted).fits in
     let all = refused-are a.circles a.book.now ed.result read.result read.ensures ed.ensures _ (omega arith) answer in
     (few, (omega arith, subst⁻¹ (λ (l : List No). a.at + length (no_lines (take a.count l)) ≤ most_listing) all c.requires))
 
-pub returns-in-Read : goal.returns-in-Read
-returns-in-Read c =
+pub returns-in-Ok : goal.returns-in-Ok
+returns-in-Ok c =
     let a = c.args in
     let read = c.read_tables-read in
     let ed = c.edition_of-edition in
     let p = c.put_no_lines_from in
-    let all = refused-are a.circles a.book.now ed.result read.result read.ensures ed.ensures _ (omega arith) c.in-Read.is in
+    let all = refused-are a.circles a.book.now ed.result read.result read.ensures ed.ensures _ (omega arith) c.in-Ok.is in
     subst (λ (l : List No). Lays a.at (no_lines (take a.count l)) a.room.now p.result p.new.room) all p.ensures
 
-pub returns-in-Refused : goal.returns-in-Refused
-returns-in-Refused c =
+pub returns-in-Err : goal.returns-in-Err
+returns-in-Err c =
     let a = c.args in
     let read = c.read_tables-read in
     let ed = c.edition_of-edition in
     let same = tables-are a.circles a.book.now ed.result read.result read.ensures ed.ensures in
-    nothing-laid a.at a.room.now (nos-none a.count (refused_none a.circles (edition_of a.book.now) a.book.now (omega arith) read.result same _ _ c.in-Refused.is))
+    nothing-laid a.at a.room.now (nos-none a.count (refused_none a.circles (edition_of a.book.now) a.book.now (omega arith) read.result same _ _ c.in-Err.is))

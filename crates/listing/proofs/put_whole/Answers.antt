@@ -2,9 +2,9 @@ use native.Mathlib.Omega.{arith}
 use borrow.Author.Tests.{leb-false, leb-true}
 use mathlib.Core.Path.{sym, ◌∙◌}
 use lib.ListN.{length}
-use Rattle.listing.specs.Lines.{listing_of}
+use Rattle.listing.specs.Lines.{listed, listing_of}
 use Rattle.listing.proofs.TextLaws.{put_small}
-use Rattle.listing.proofs.WholeLaws.{laid-put, listed}
+use Rattle.listing.proofs.WholeLaws.{laid-put}
 use Rattle.listing.proofs.put_whole.Goals as goal
 
 pub returns-then-not-holds : goal.returns-then-not-holds

@@ -1,5 +1,4 @@
 use Rattle.meeting.proofs.RowLaws.{first, then}
-use borrow.Author.Rules.{rules}
 use Rattle.meeting.proofs.share_row.Goals as goal
 
 pub returns : goal.returns

@@ -5,14 +5,11 @@ use Rattle.moves.specs.Lines.{todo_letters}
 use Rattle.moves.specs.declared.Todo.{Todo}
 use Rattle.moves.proofs.with_todo.Goals as goal
 
-pub returns-in-Nothing : goal.returns-in-Nothing
-returns-in-Nothing c = let a = c.args in c.word.ensures ∙ ap (λ (x : Todo). with_all (text_of a.text) (todo_letters a.names.now a.ends.now a.steps.now a.i x)) (sym c.in-Nothing.is)
-
 pub returns-in-Begins : goal.returns-in-Begins
-returns-in-Begins c = let a = c.args in then _ _ _ c.word-in-Begins.ensures c.with_part.ensures ∙ ap (λ (x : Todo). with_all (text_of a.text) (todo_letters a.names.now a.ends.now a.steps.now a.i x)) (sym c.in-Begins.is)
+returns-in-Begins c = let a = c.args in then _ _ _ c.word-in-Begins.ensures c.with_part.ensures ∙ ap (λ (x : Todo). with_all (text_of a.text) (todo_letters a.plan.names.now a.plan.ends.now a.plan.steps.now a.i x)) (sym c.in-Begins.is)
 
 pub returns-in-Commits : goal.returns-in-Commits
-returns-in-Commits c = let a = c.args in then _ _ _ c.word-in-Commits.ensures c.with_part-in-Commits.ensures ∙ ap (λ (x : Todo). with_all (text_of a.text) (todo_letters a.names.now a.ends.now a.steps.now a.i x)) (sym c.in-Commits.is)
+returns-in-Commits c = let a = c.args in then _ _ _ c.word-in-Commits.ensures c.with_part-in-Commits.ensures ∙ ap (λ (x : Todo). with_all (text_of a.text) (todo_letters a.plan.names.now a.plan.ends.now a.plan.steps.now a.i x)) (sym c.in-Commits.is)
 
 pub returns-in-Aborts : goal.returns-in-Aborts
-returns-in-Aborts c = let a = c.args in then _ _ _ c.word-in-Aborts.ensures c.with_part-in-Aborts.ensures ∙ ap (λ (x : Todo). with_all (text_of a.text) (todo_letters a.names.now a.ends.now a.steps.now a.i x)) (sym c.in-Aborts.is)
+returns-in-Aborts c = let a = c.args in then _ _ _ c.word-in-Aborts.ensures c.with_part-in-Aborts.ensures ∙ ap (λ (x : Todo). with_all (text_of a.text) (todo_letters a.plan.names.now a.plan.ends.now a.plan.steps.now a.i x)) (sym c.in-Aborts.is)

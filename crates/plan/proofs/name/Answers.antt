@@ -1,23 +1,11 @@
-use native.Mathlib.Omega.{arith}
-use mathlib.Core.Path.{◌≡◌, ap, ◌∙◌}
-use Prim.Native.Nat.{ℕ, ◌-◌}
-use lib.ListN.{take, drop}
-use Rattle.plan.proofs.NameLaws.{name-between, begin-within}
+use Rattle.std.proofs.Common.{◌≡◌, ℕ, ◌-◌, take, drop, arith, ap, ◌∙◌}
+use Rattle.plan.proofs.NameLaws.{name-between}
 use Rattle.plan.proofs.name.Goals as goal
 
-pub slice_bounds-result-end : goal.slice_bounds-result-end
-slice_bounds-result-end c =
-    let a = c.args in
-    let b = begin-within a.names.now a.ends.now a.k in
-    omega (arith, b, c.name_begin-begin.ensures)
-
-pub returns-then-end-begin : goal.returns-then-end-begin
-returns-then-end-begin c =
-    let a = c.args in
-    let e : c.name_begin-begin.result - c.name_begin-begin.result ≡ c.name_end-end.result - c.name_begin-begin.result = omega arith in
-    ap (λ (n : ℕ). take n (drop c.name_begin-begin.result a.names.now)) e ∙ name-between a.names.now a.ends.now a.k c.name_begin-begin.ensures c.name_end-end.ensures
-
+-- an end before the begin counts as the begin
 pub returns : goal.returns
 returns c =
     let a = c.args in
-    name-between a.names.now a.ends.now a.k c.name_begin-begin.ensures c.name_end-end.ensures
+    let b = c.name_begin-begin.result in
+    let same : c.max.result - b ≡ c.name_end-end.result - b = omega (arith, c.max.ensures) in
+    ap (λ (n : ℕ). take n (drop b a.names.now)) same ∙ name-between a.names.now a.ends.now a.k c.name_begin-begin.ensures c.name_end-end.ensures

@@ -1,5 +1,5 @@
 use native.Mathlib.Omega.{arith}
-use mathlib.Core.Path.{◌≡◌, refl, sym, ap, ◌∙◌}
+use mathlib.Core.Path.{◌≡◌, sym, ap, ◌∙◌}
 use mathlib.Core.List.{List, ◌∷◌}
 use mathlib.Core.Bool.{Bool, true}
 use Prim.Native.Nat.{ℕ, ◌+◌, ◌≤◌, ◌<◌}
@@ -9,128 +9,71 @@ use Rattle.plan.specs.Reading.{names_in, joined, ends_from}
 use Rattle.plan.specs.Passes.{laid, has_name}
 use Rattle.plan.specs.declared.Word.{Word}
 use Rattle.plan.proofs.LaidLaws.{laid_none, laid_cons, laid-append}
-use Rattle.plan.proofs.EntryLaws.{end-within, entry_more, no-entries, names-none, joined-none, joined-cons, ends-none, ends-cons, names-on, names-off}
+use Rattle.plan.proofs.EntryLaws.{no-entries, names-none, joined-none, joined-cons, ends-none, ends-cons, names-on, names-off}
 use Rattle.plan.proofs.put_names.Goals as goal
 
 -- a name stands before the names to come
-named : (text name line : List ℕ) (at end : ℕ) (lists : Bool) (w : Word) → entries_of (drop at text) ≡ entry_by w (name_of line) ∷ entries_of (drop (end + 1) text)
+named : (text name line : List ℕ) (at next : ℕ) (lists : Bool) (w : Word) → entries_of (drop at text) ≡ entry_by w (name_of line) ∷ entries_of (drop next text)
     → has_name w lists ≡ true → name ≡ name_of line
-    → names_in lists (entries_of (drop at text)) ≡ name ∷ names_in lists (entries_of (drop (end + 1) text))
-named text name line at end lists w turn on same =
-    let rest = names_in lists (entries_of (drop (end + 1) text)) in
-    ap (names_in lists) turn ∙ names-on (name_of line) (entries_of (drop (end + 1) text)) w lists on ∙ ap (λ (x : List ℕ). x ∷ rest) (sym same)
+    → names_in lists (entries_of (drop at text)) ≡ name ∷ names_in lists (entries_of (drop next text))
+named text name line at next lists w turn on same =
+    let rest = names_in lists (entries_of (drop next text)) in
+    ap (names_in lists) turn ∙ names-on (name_of line) (entries_of (drop next text)) w lists on ∙ ap (λ (x : List ℕ). x ∷ rest) (sym same)
 
 -- how many bytes the names to come have
 size : (name : List ℕ) (xs ys : List (List ℕ)) → xs ≡ name ∷ ys → length (joined xs) ≡ length name + length (joined ys)
 size name xs ys e = ap (λ (zs : List (List ℕ)). length (joined zs)) e ∙ ap length (joined-cons name ys) ∙ length-append name (joined ys)
 
-pub loop-at-init : goal.loop-at-init
-loop-at-init c = (omega arith, refl, refl, refl, refl, refl, refl)
-
-pub line_between-line-requires : goal.line_between-line-requires
-line_between-line-requires c =
-    let inside = end-within c.args.text.now c.loop-at.at c.line_end-end.result c.line_end-end.ensures (omega arith) in
-    inside
-
-pub overflow_add-at : goal.overflow_add-at
-overflow_add-at c =
-    let inside = end-within c.args.text.now c.loop-at.at c.line_end-end.result c.line_end-end.ensures (omega arith) in
-    omega arith
-
-pub put-requires : goal.put-requires
-put-requires c =
-    let a = c.args in
-    let l = c.loop-at in
-    let end = c.line_end-end.result in
-    let name = c.name_of-name.result.now in
-    let line = c.line_between-line.result.now in
-    let turn = entry_more a.text.now l.at end c.line_end-end.ensures (omega arith) c.line_between-line.ensures c.word_of-word.ensures refl in
-    let q = named a.text.now name line l.at end a.lists c.word_of-word.result turn (sym c.has_name.ensures ∙ c.if-has_name.true) c.name_of-name.ensures in
-    let rest = names_in a.lists (entries_of (drop (end + 1) a.text.now)) in
-    let s = size name (names_in a.lists (entries_of (drop l.at a.text.now))) rest q in
-    omega (arith, s, c.requires.text_in_bounds, l.invariant.1, l.invariant.3)
-
-pub overflow_add-n : goal.overflow_add-n
-overflow_add-n c =
-    let a = c.args in
-    let l = c.loop-at in
-    let end = c.line_end-end.result in
-    let name = c.name_of-name.result.now in
-    let line = c.line_between-line.result.now in
-    let turn = entry_more a.text.now l.at end c.line_end-end.ensures (omega arith) c.line_between-line.ensures c.word_of-word.ensures refl in
-    let q = named a.text.now name line l.at end a.lists c.word_of-word.result turn (sym c.has_name.ensures ∙ c.if-has_name.true) c.name_of-name.ensures in
-    let rest = names_in a.lists (entries_of (drop (end + 1) a.text.now)) in
-    let s = size name (names_in a.lists (entries_of (drop l.at a.text.now))) rest q in
-    omega (arith, s, c.requires.text_bound, l.invariant.3)
-
 pub overflow_cast-ends : goal.overflow_cast-ends
 overflow_cast-ends c =
     let a = c.args in
     let l = c.loop-at in
-    let end = c.line_end-end.result in
+    let next = c.said_at-said.result.next in
     let name = c.name_of-name.result.now in
-    let line = c.line_between-line.result.now in
-    let turn = entry_more a.text.now l.at end c.line_end-end.ensures (omega arith) c.line_between-line.ensures c.word_of-word.ensures refl in
-    let q = named a.text.now name line l.at end a.lists c.word_of-word.result turn (sym c.has_name.ensures ∙ c.if-has_name.true) c.name_of-name.ensures in
-    let rest = names_in a.lists (entries_of (drop (end + 1) a.text.now)) in
+    let line = c.said_at-said.result.line.now in
+    let turn = c.said_at-said.ensures.entry in
+    let q = named a.text.now name line l.at next a.lists c.said_at-said.result.word turn (sym c.has_name.ensures ∙ c.if-has_name.true) c.name_of-name.ensures in
+    let rest = names_in a.lists (entries_of (drop next a.text.now)) in
     let s = size name (names_in a.lists (entries_of (drop l.at a.text.now))) rest q in
     omega (arith, s, c.requires.text_bound, l.invariant.3)
-
-pub offset_bounds-ends-k : goal.offset_bounds-ends-k
-offset_bounds-ends-k c =
-    let a = c.args in
-    let l = c.loop-at in
-    let end = c.line_end-end.result in
-    let name = c.name_of-name.result.now in
-    let line = c.line_between-line.result.now in
-    let turn = entry_more a.text.now l.at end c.line_end-end.ensures (omega arith) c.line_between-line.ensures c.word_of-word.ensures refl in
-    let q = named a.text.now name line l.at end a.lists c.word_of-word.result turn (sym c.has_name.ensures ∙ c.if-has_name.true) c.name_of-name.ensures in
-    let rest = names_in a.lists (entries_of (drop (end + 1) a.text.now)) in
-    let s = size name (names_in a.lists (entries_of (drop l.at a.text.now))) rest q in
-    omega (arith, ap length q, c.requires.text_in_bounds_2, l.invariant.2, l.invariant.4)
 
 pub bounds-ends-k : goal.bounds-ends-k
 bounds-ends-k c =
     let a = c.args in
     let l = c.loop-at in
-    let end = c.line_end-end.result in
+    let next = c.said_at-said.result.next in
     let name = c.name_of-name.result.now in
-    let line = c.line_between-line.result.now in
-    let turn = entry_more a.text.now l.at end c.line_end-end.ensures (omega arith) c.line_between-line.ensures c.word_of-word.ensures refl in
-    let q = named a.text.now name line l.at end a.lists c.word_of-word.result turn (sym c.has_name.ensures ∙ c.if-has_name.true) c.name_of-name.ensures in
-    let rest = names_in a.lists (entries_of (drop (end + 1) a.text.now)) in
+    let line = c.said_at-said.result.line.now in
+    let turn = c.said_at-said.ensures.entry in
+    let q = named a.text.now name line l.at next a.lists c.said_at-said.result.word turn (sym c.has_name.ensures ∙ c.if-has_name.true) c.name_of-name.ensures in
+    let rest = names_in a.lists (entries_of (drop next a.text.now)) in
     let s = size name (names_in a.lists (entries_of (drop l.at a.text.now))) rest q in
     omega (arith, ap length q, c.requires.text_in_bounds_2, l.invariant.2, l.invariant.4)
 
-pub overflow_add-k : goal.overflow_add-k
-overflow_add-k c =
+pub put-requires : goal.put-requires
+put-requires c =
     let a = c.args in
     let l = c.loop-at in
-    let end = c.line_end-end.result in
+    let next = c.said_at-said.result.next in
     let name = c.name_of-name.result.now in
-    let line = c.line_between-line.result.now in
-    let turn = entry_more a.text.now l.at end c.line_end-end.ensures (omega arith) c.line_between-line.ensures c.word_of-word.ensures refl in
-    let q = named a.text.now name line l.at end a.lists c.word_of-word.result turn (sym c.has_name.ensures ∙ c.if-has_name.true) c.name_of-name.ensures in
-    let rest = names_in a.lists (entries_of (drop (end + 1) a.text.now)) in
+    let line = c.said_at-said.result.line.now in
+    let turn = c.said_at-said.ensures.entry in
+    let q = named a.text.now name line l.at next a.lists c.said_at-said.result.word turn (sym c.has_name.ensures ∙ c.if-has_name.true) c.name_of-name.ensures in
+    let rest = names_in a.lists (entries_of (drop next a.text.now)) in
     let s = size name (names_in a.lists (entries_of (drop l.at a.text.now))) rest q in
-    omega (arith, ap length q, c.requires.text_in_bounds_2, l.invariant.2, l.invariant.4)
-
-pub loop-at-smaller-then-has_name : goal.loop-at-smaller-then-has_name
-loop-at-smaller-then-has_name c =
-    let inside = end-within c.args.text.now c.loop-at.at c.line_end-end.result c.line_end-end.ensures (omega arith) in
-    omega arith
+    omega (arith, s, c.requires.text_in_bounds, l.invariant.1, l.invariant.3)
 
 pub loop-at-preserved-then-has_name : goal.loop-at-preserved-then-has_name
 loop-at-preserved-then-has_name c =
-    let inside = end-within c.args.text.now c.loop-at.at c.line_end-end.result c.line_end-end.ensures (omega arith) in
+    let next = c.said_at-said.ensures.next_after in
     let a = c.args in
     let l = c.loop-at in
-    let end = c.line_end-end.result in
+    let next = c.said_at-said.result.next in
     let name = c.name_of-name.result.now in
-    let line = c.line_between-line.result.now in
-    let turn = entry_more a.text.now l.at end c.line_end-end.ensures (omega arith) c.line_between-line.ensures c.word_of-word.ensures refl in
-    let q = named a.text.now name line l.at end a.lists c.word_of-word.result turn (sym c.has_name.ensures ∙ c.if-has_name.true) c.name_of-name.ensures in
-    let rest = names_in a.lists (entries_of (drop (end + 1) a.text.now)) in
+    let line = c.said_at-said.result.line.now in
+    let turn = c.said_at-said.ensures.entry in
+    let q = named a.text.now name line l.at next a.lists c.said_at-said.result.word turn (sym c.has_name.ensures ∙ c.if-has_name.true) c.name_of-name.ensures in
+    let rest = names_in a.lists (entries_of (drop next a.text.now)) in
     let s = size name (names_in a.lists (entries_of (drop l.at a.text.now))) rest q in
     let room : l.n + length name ≤ length l.names = omega (arith, s, c.requires.text_in_bounds, l.invariant.1, l.invariant.3) in
     let place : l.k < length l.ends = omega (arith, ap length q, c.requires.text_in_bounds_2, l.invariant.2, l.invariant.4) in
@@ -146,20 +89,15 @@ loop-at-preserved-then-has_name c =
           ∙ laid_cons l.ends l.k (l.n + length name) (ends_from (l.n + length name) rest) place,
     )
 
-pub loop-at-smaller : goal.loop-at-smaller
-loop-at-smaller c =
-    let inside = end-within c.args.text.now c.loop-at.at c.line_end-end.result c.line_end-end.ensures (omega arith) in
-    omega arith
-
 pub loop-at-preserved : goal.loop-at-preserved
 loop-at-preserved c =
-    let inside = end-within c.args.text.now c.loop-at.at c.line_end-end.result c.line_end-end.ensures (omega arith) in
+    let next = c.said_at-said.ensures.next_after in
     let a = c.args in
     let l = c.loop-at in
-    let end = c.line_end-end.result in
-    let line = c.line_between-line.result.now in
-    let turn = entry_more a.text.now l.at end c.line_end-end.ensures (omega arith) c.line_between-line.ensures c.word_of-word.ensures refl in
-    let q = ap (names_in a.lists) turn ∙ names-off (name_of line) (entries_of (drop (end + 1) a.text.now)) c.word_of-word.result a.lists (sym c.has_name.ensures ∙ c.if-has_name.false) in (
+    let next = c.said_at-said.result.next in
+    let line = c.said_at-said.result.line.now in
+    let turn = c.said_at-said.ensures.entry in
+    let q = ap (names_in a.lists) turn ∙ names-off (name_of line) (entries_of (drop next a.text.now)) c.said_at-said.result.word a.lists (sym c.has_name.ensures ∙ c.if-has_name.false) in (
       omega arith,
       l.invariant.1,
       l.invariant.2,

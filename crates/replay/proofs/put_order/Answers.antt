@@ -23,4 +23,4 @@ returns c =
     let whole : length o.result.numbers ≡ 64 = search rules in
     let long : o.result.count ≡ length (order_of a.ops) = order-long _ o.result.numbers o.result.count o.ensures.0 (omega (arith, o.ensures.1)) in
     let done = copy_done (order_of a.ops) a.room.now o.result.count long (omega arith) in
-    (done.0, c.copy.ensures ∙ ap (λ (l : List ℕ). l ++ drop o.result.count a.room.now) o.ensures.0 ∙ done.1)
+    (done.0, ap (λ (l : List ℕ). l ++ drop o.result.count a.room.now) (c.copy_from_slice.ensures.after ∙ o.ensures.0) ∙ done.1)

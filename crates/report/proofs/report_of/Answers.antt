@@ -18,4 +18,4 @@ returns c =
     let low : c.lowest-low.result ≡ first_below most_transactions (active_in ts) =
     c.lowest-low.ensures ∙ ap (λ (x : ℕ). first_below most_transactions (mem x)) set.ensures ∙ first_member (active_in ts)
     in
-    λ i. record { active = many i; lowest = low i; before = c.standing-before.ensures i }
+    λ i. record { active = many i; lowest = low i; before = c.standing.ensures i }

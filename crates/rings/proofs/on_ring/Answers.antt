@@ -21,7 +21,7 @@ unfolding on_ring
 returns c =
     let a = c.args in
     let all = c.size-all in
-    let s = c.spread-r in
+    let s = c.spread in
     c.member.ensures
     ∙ spread-back (ties_of all.result (read_at a.ops.now)) (ties-small all.result (read_at a.ops.now)) a.t s.result s.ensures
     ∙ ap (λ (R : ℕ → ℕ → Bool). leads_to most_transactions R a.t a.t) (order-read a.ops.now a.n all.result all.ensures)

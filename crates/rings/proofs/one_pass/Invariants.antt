@@ -1,10 +1,6 @@
-use Prim.Native.Nat.{◌-◌, ◌≤◌}
 use mathlib.Core.Path.{◌≡◌}
 use Rattle.rings.specs.Passes.{pass_to, read_at}
 use Rattle.rings.proofs.one_pass.Given as goal
 
 abbrev pub invariant-loop-i : goal.invariant-loop-i
-invariant-loop-i l = (l.i ≤ l.total) × (l.p ≡ pass_to l.i (read_at l.ops) l.start l.from)
-
-abbrev pub decreases-loop-i : goal.decreases-loop-i
-decreases-loop-i l = l.total - l.i
+invariant-loop-i l = l.p ≡ pass_to l.i (read_at l.ops) l.start l.from

@@ -15,9 +15,6 @@ use Rattle.rules.proofs.RuleLaws.{nobody-active, undos-held}
 use Rattle.rules.proofs.active_undos.Goals.{then-is_active+then-is_undo, then-is_active+else-is_undo, else-is_active}
 use Rattle.rules.proofs.active_undos.Goals as goal
 
-pub some_undo_active-requires : goal.some_undo_active-requires
-some_undo_active-requires c = omega (arith, c.count_in-owned.ensures)
-
 pub returns-then-not-some_undo_active : goal.returns-then-not-some_undo_active
 returns-then-not-some_undo_active c tables holds =
     let a = c.args in
@@ -27,7 +24,7 @@ returns-then-not-some_undo_active c tables holds =
     ∙ undos-held a.sheet.now ts n.result tables holds n.ensures
 
 pub loop-t-init : goal.loop-t-init
-loop-t-init c = (omega arith, sym (set-of-none _), c.count_in-owned.ensures)
+loop-t-init c = (sym (set-of-none _), c.count_in-owned.ensures)
 
 pub loop-t-preserved : goal.loop-t-preserved
 loop-t-preserved c =
@@ -35,17 +32,16 @@ loop-t-preserved c =
     let l = c.loop-t in
     let ts = transactions_in a.transactions.now in
     let f = undo_on a.sheet.now ts in
-    let active = c.is_active.ensures ∙ ap is_active (c.phase_in-phase.ensures ∙ sym (phase-low a.transactions.now l.t (omega (arith, l.invariant.2)))) in (
-      omega arith,
+    let active = c.is_active.ensures ∙ ap is_active (c.phase_in-phase.ensures ∙ sym (phase-low a.transactions.now l.t (omega (arith, l.invariant.1)))) in (
       elim c.if-is_active.branch [
         | then-is_active+then-is_undo w ↦
             w.set-is ∙ w.with_member-set.ensures
-            ∙ set-of-in f l.t l.set l.invariant.1
+            ∙ set-of-in f l.t l.set l.invariant.0
             (and_on (is_undo (sort_at a.sheet.now l.t)) (is_active (phase_of ts l.t)) (sym (w.is_undo.ensures ∙ ap is_undo w.sort_at-sort.ensures) ∙ w.if-is_undo.true) (sym active ∙ w.if-is_active.true))
-        | then-is_active+else-is_undo w ↦ w.set-is ∙ set-of-out f l.t l.set l.invariant.1 (rw (sym (w.is_undo.ensures ∙ ap is_undo w.sort_at-sort.ensures) ∙ w.if-is_undo.false))
-        | else-is_active w ↦ w.set-is ∙ set-of-out f l.t l.set l.invariant.1 (rw (sym active ∙ w.if-is_active.false, and-false (is_undo (sort_at a.sheet.now l.t))))
+        | then-is_active+else-is_undo w ↦ w.set-is ∙ set-of-out f l.t l.set l.invariant.0 (rw (sym (w.is_undo.ensures ∙ ap is_undo w.sort_at-sort.ensures) ∙ w.if-is_undo.false))
+        | else-is_active w ↦ w.set-is ∙ set-of-out f l.t l.set l.invariant.0 (rw (sym active ∙ w.if-is_active.false, and-false (is_undo (sort_at a.sheet.now l.t))))
       ],
-      l.invariant.2,
+      l.invariant.1,
     )
 
 pub returns : goal.returns
@@ -53,5 +49,5 @@ returns c tables holds =
     let a = c.args in
     let l = c.loop-t in
     let f = undo_on a.sheet.now (transactions_in a.transactions.now) in
-    l.invariant.1 ∙ ap (λ (n : ℕ). set_of n f) (omega arith)
-    ∙ undos-held a.sheet.now (transactions_in a.transactions.now) c.count_in-owned.result tables holds l.invariant.2
+    l.invariant.0 ∙ ap (λ (n : ℕ). set_of n f) (omega arith)
+    ∙ undos-held a.sheet.now (transactions_in a.transactions.now) c.count_in-owned.result tables holds l.invariant.1

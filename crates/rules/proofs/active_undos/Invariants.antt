@@ -1,4 +1,4 @@
-use Prim.Native.Nat.{◌-◌, ◌≤◌, min}
+use Prim.Native.Nat.{min}
 use mathlib.Core.Path.{◌≡◌}
 use Rattle.terms.specs.Limits.{most_transactions}
 use Rattle.sets.specs.Sets.{set_of}
@@ -8,7 +8,4 @@ use Rattle.rules.specs.Rules.{undo_on}
 use Rattle.rules.proofs.active_undos.Given as goal
 
 abbrev pub invariant-loop-t : goal.invariant-loop-t
-invariant-loop-t l = (l.t ≤ l.owned) × (l.set ≡ set_of l.t (undo_on l.sheet (transactions_in l.transactions))) × (l.owned ≡ min (owned_on l.sheet) most_transactions)
-
-abbrev pub decreases-loop-t : goal.decreases-loop-t
-decreases-loop-t l = l.owned - l.t
+invariant-loop-t l = (l.set ≡ set_of l.t (undo_on l.sheet (transactions_in l.transactions))) × (l.owned ≡ min (owned_on l.sheet) most_transactions)

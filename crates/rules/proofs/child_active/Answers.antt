@@ -10,21 +10,21 @@ use Rattle.rules.specs.States.{is_active, is_under}
 use Rattle.rules.proofs.LentLaws.{parent-low, phase-low}
 use Rattle.rules.proofs.child_active.Goals as goal
 
-pub loop-t-init : goal.loop-t-init
-loop-t-init c = (omega arith, sym (any_none _))
+pub loop-c-init : goal.loop-c-init
+loop-c-init c = sym (any_none _)
 
-pub loop-t-preserved : goal.loop-t-preserved
-loop-t-preserved c =
+pub loop-c-preserved : goal.loop-c-preserved
+loop-c-preserved c =
     let a = c.args in
-    let l = c.loop-t in
+    let l = c.loop-c in
     let ts = transactions_in a.transactions.now in
-    let under = c.is_under.ensures ∙ ap (is_under a.m) (c.parent_in-parent.ensures ∙ sym (parent-low a.transactions.now l.t (omega arith))) in
-    let active = c.is_active.ensures ∙ ap is_active (c.phase_in-phase.ensures ∙ sym (phase-low a.transactions.now l.t (omega arith))) in
-    (omega arith, ap₂ ◌||◌ l.invariant.1 (ap₂ ◌&&◌ under active) ∙ sym (any-more l.t (active_child ts a.m)))
+    let under = c.is_under.ensures ∙ ap (is_under a.m) (c.parent_in-parent.ensures ∙ sym (parent-low a.transactions.now l.c-index (omega arith))) in
+    let active = c.is_active.ensures ∙ ap is_active (c.phase_in-phase.ensures ∙ sym (phase-low a.transactions.now l.c-index (omega arith))) in
+    ap₂ ◌||◌ l.invariant (ap₂ ◌&&◌ under active) ∙ sym (any-more l.c-index (active_child ts a.m))
 
 pub returns : goal.returns
 unfolding child_active
 returns c =
     let a = c.args in
-    let l = c.loop-t in
-    l.invariant.1 ∙ ap (λ (n : ℕ). any_below n (active_child (transactions_in a.transactions.now) a.m)) (omega arith)
+    let l = c.loop-c in
+    l.invariant ∙ ap (λ (n : ℕ). any_below n (active_child (transactions_in a.transactions.now) a.m)) (omega arith)

@@ -1,4 +1,4 @@
-use Prim.Native.Nat.{◌-◌, ◌≤◌, min}
+use Prim.Native.Nat.{min}
 use mathlib.Core.Path.{◌≡◌}
 use mathlib.Core.Bool.{false}
 use Rattle.laws.specs.Index.{any_below}
@@ -9,7 +9,4 @@ use Rattle.rules.proofs.RuleLaws.{bars_on}
 use Rattle.rules.proofs.declared_bars.Given as goal
 
 abbrev pub invariant-loop-i : goal.invariant-loop-i
-invariant-loop-i l = (l.i ≤ l.n) × (l.n ≡ min (declared_on l.sheet) most_dependencies) × (any_below l.i (bars_on l.begins l.sheet (transactions_in l.transactions) l.t) ≡ false)
-
-abbrev pub decreases-loop-i : goal.decreases-loop-i
-decreases-loop-i l = l.n - l.i
+invariant-loop-i l = (l.n ≡ min (declared_on l.sheet) most_dependencies) × (any_below l.i (bars_on l.begins l.sheet (transactions_in l.transactions) l.t) ≡ false)

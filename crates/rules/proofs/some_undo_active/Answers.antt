@@ -12,7 +12,7 @@ use Rattle.rules.proofs.LentLaws.{phase-low}
 use Rattle.rules.proofs.some_undo_active.Goals as goal
 
 pub loop-t-init : goal.loop-t-init
-loop-t-init c = (omega arith, sym (any_none _))
+loop-t-init c = sym (any_none _)
 
 pub loop-t-preserved : goal.loop-t-preserved
 loop-t-preserved c =
@@ -21,10 +21,10 @@ loop-t-preserved c =
     let ts = transactions_in a.transactions.now in
     let undo = c.is_undo.ensures ∙ ap is_undo c.sort_at-sort.ensures in
     let active = c.is_active.ensures ∙ ap is_active (c.phase_in-phase.ensures ∙ sym (phase-low a.transactions.now l.t (omega arith))) in
-    (omega arith, ap₂ ◌||◌ l.invariant.1 (ap₂ ◌&&◌ undo active) ∙ sym (any-more l.t (undo_on a.sheet.now ts)))
+    ap₂ ◌||◌ l.invariant (ap₂ ◌&&◌ undo active) ∙ sym (any-more l.t (undo_on a.sheet.now ts))
 
 pub returns : goal.returns
 returns c =
     let a = c.args in
     let l = c.loop-t in
-    l.invariant.1 ∙ ap (λ (n : ℕ). any_below n (undo_on a.sheet.now (transactions_in a.transactions.now))) (omega arith)
+    l.invariant ∙ ap (λ (n : ℕ). any_below n (undo_on a.sheet.now (transactions_in a.transactions.now))) (omega arith)

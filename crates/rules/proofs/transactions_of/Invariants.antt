@@ -1,4 +1,3 @@
-use Prim.Native.Nat.{◌-◌, ◌≤◌}
 use mathlib.Core.Path.{◌≡◌}
 use lib.ListN.{length, take}
 use Rattle.terms.specs.Limits.{most_transactions}
@@ -6,7 +5,4 @@ use Rattle.rules.specs.Lent.{transactions_in}
 use Rattle.rules.proofs.transactions_of.Given as goal
 
 abbrev pub invariant-loop-t : goal.invariant-loop-t
-invariant-loop-t l = (l.t ≤ most_transactions) × (length l.all ≡ most_transactions) × (length (transactions_in l.transactions) ≡ most_transactions → take l.t l.all ≡ take l.t (transactions_in l.transactions))
-
-abbrev pub decreases-loop-t : goal.decreases-loop-t
-decreases-loop-t l = most_transactions - l.t
+invariant-loop-t l = (length l.all ≡ most_transactions) × (length (transactions_in l.transactions) ≡ most_transactions → take l.t l.all ≡ take l.t (transactions_in l.transactions))

@@ -1,7 +1,6 @@
 use Prim.Native.Nat.{ℕ}
 use mathlib.Core.Path.{sym, ap, ◌∙◌}
 use Rattle.sagalib.specs.Numbers.{four, mend_numbers}
-use borrow.Author.Rules.{rules}
 use Rattle.sagalib.proofs.mend_numbers.Goals as goal
 
 pub returns-in-Own : goal.returns-in-Own

@@ -1,7 +1,6 @@
 use mathlib.Core.Path.{ap, ◌∙◌}
 use Rattle.left.specs.Left.{left_in}
 use Rattle.onward.specs.declared.Judgement.{Judgement}
-use borrow.Author.Rules.{rules}
 use Rattle.sagalib.proofs.saga_left.Goals as goal
 
 pub returns : goal.returns

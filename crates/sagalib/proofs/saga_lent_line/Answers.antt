@@ -1,6 +1,5 @@
 use Rattle.desk.specs.Desk.{desk_of}
 use Rattle.sagalib.proofs.NumberLaws.{line_is}
-use borrow.Author.Rules.{rules}
 use Rattle.sagalib.proofs.saga_lent_line.Goals as goal
 
 pub returns : goal.returns

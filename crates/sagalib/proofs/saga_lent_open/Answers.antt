@@ -2,7 +2,6 @@ use mathlib.Core.Path.{refl}
 use Rattle.desk.specs.Desk.{desk_of}
 use Rattle.desk.specs.Ways.{judged}
 use Rattle.sagalib.proofs.NumberLaws.{opened-is}
-use borrow.Author.Rules.{rules}
 use Rattle.sagalib.proofs.saga_lent_open.Goals as goal
 
 pub returns : goal.returns

@@ -2,11 +2,9 @@ use Prim.Native.Nat.{ℕ}
 use mathlib.Core.Path.{ap, ◌∙◌}
 use mathlib.Core.List.{List}
 use Rattle.onward.specs.declared.Judgement.{Judgement}
-use Rattle.listing.specs.Lines.{listing_of}
+use Rattle.listing.specs.Lines.{listed, listing_of}
 use Rattle.listing.specs.Texts.{put_answer, put_room}
-use Rattle.listing.proofs.WholeLaws.{listed}
 use Rattle.sagalib.proofs.NumberLaws.{listing-is, listing-told}
-use borrow.Author.Rules.{rules}
 use Rattle.sagalib.proofs.saga_listing.Goals as goal
 
 pub returns : goal.returns
@@ -15,7 +13,7 @@ returns c =
     let circles = c.circles_in-circles in
     let read = c.judged-read in
     let put = c.put_whole-put in
-    let outcome = c.listing_outcome-outcome in
+    let outcome = c.put_outcome-outcome in
     let all =
     ap (λ (r : Judgement). listing_of r (listed r circles.result a.book.now)) read.ensures
     ∙ listing-told a.way a.book.now circles.result circles.ensures in (

@@ -1,6 +1,5 @@
 use mathlib.Core.Path.{ap, ◌∙◌}
 use Rattle.sagalib.specs.Numbers.{mend_numbers, mended_numbers}
-use borrow.Author.Rules.{rules}
 use Rattle.sagalib.proofs.saga_mend.Goals as goal
 
 pub returns : goal.returns

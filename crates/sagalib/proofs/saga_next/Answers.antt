@@ -1,5 +1,4 @@
 use Rattle.sagalib.proofs.NumberLaws.{next-is}
-use borrow.Author.Rules.{rules}
 use Rattle.sagalib.proofs.saga_next.Goals as goal
 
 pub returns : goal.returns

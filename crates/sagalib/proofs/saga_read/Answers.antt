@@ -1,5 +1,4 @@
 use Rattle.sagalib.proofs.NumberLaws.{read_is}
-use borrow.Author.Rules.{rules}
 use Rattle.sagalib.proofs.saga_read.Goals as goal
 
 pub returns : goal.returns

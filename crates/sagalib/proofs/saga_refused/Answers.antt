@@ -4,7 +4,6 @@ use lib.ListN.{length}
 use Rattle.onward.specs.Onward.{fitting, listed_in}
 use Rattle.onward.specs.declared.No.{No}
 use Rattle.sagalib.proofs.NumberLaws.{none_refused, refused-on}
-use borrow.Author.Rules.{rules}
 use Rattle.sagalib.proofs.saga_refused.Goals as goal
 
 pub returns-then-reads_on : goal.returns-then-reads_on

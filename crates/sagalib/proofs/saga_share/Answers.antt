@@ -1,7 +1,6 @@
 use mathlib.Core.Path.{ap, ◌∙◌}
 use Rattle.totals.specs.Figures.{share_of}
 use Rattle.sagalib.specs.Numbers.{share_numbers}
-use borrow.Author.Rules.{rules}
 use Rattle.sagalib.proofs.saga_share.Goals as goal
 
 pub returns : goal.returns

@@ -1,5 +1,4 @@
 use Rattle.sagalib.proofs.NumberLaws.{unpack-is}
-use borrow.Author.Rules.{rules}
 use Rattle.sagalib.proofs.saga_unpack.Goals as goal
 
 pub returns : goal.returns

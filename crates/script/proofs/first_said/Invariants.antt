@@ -9,7 +9,7 @@ use Rattle.script.proofs.RowLaws.{few, every}
 use Rattle.script.proofs.first_said.Given as goal
 
 abbrev pub invariant-loop-at : goal.invariant-loop-at
-invariant-loop-at l = (length l.room ≡ length l.initial.room) × (take l.from l.room ≡ take l.from l.initial.room) × (l.from + most_fields ≤ length l.room) × (every few (lines_of (drop l.at l.rows)) ≡ true) × (first_says forms l.letter (drop l.start l.line) (take l.from l.initial.room) ≡ first_says (lines_of (drop l.at l.rows)) l.letter (drop l.start l.line) (take l.from l.initial.room))
+invariant-loop-at l = (length l.room ≡ length l.initial.room) × (take l.from l.room ≡ take l.from l.initial.room) × (l.from + most_fields ≤ length l.room) × (every few (lines_of (drop l.at l.rows)) ≡ true) × (first_says forms l.letter l.line (take l.from l.initial.room) ≡ first_says (lines_of (drop l.at l.rows)) l.letter l.line (take l.from l.initial.room))
 
 abbrev pub decreases-loop-at : goal.decreases-loop-at
 decreases-loop-at l = length l.rows - l.at

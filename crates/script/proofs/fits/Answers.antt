@@ -4,17 +4,17 @@ use lib.ListN.{get_or}
 use Rattle.script.proofs.FormLaws.{fits-none, fits_not, fits_more, takes-le}
 use Rattle.script.proofs.fits.Goals as goal
 
-pub loop-i-init : goal.loop-i-init
-loop-i-init c = (omega arith, omega arith, refl)
+pub loop-b-init : goal.loop-b-init
+loop-b-init c = (omega arith, refl)
 
 pub returns-then-not-is_own : goal.returns-then-not-is_own
-returns-then-not-is_own c = sym (c.loop-i.invariant.2 ∙ fits_not c.args.form.now c.args.fields.now c.loop-i.i c.loop-i.n (omega arith) (sym c.is_own.ensures ∙ c.if-not-is_own.true))
+returns-then-not-is_own c = sym (c.loop-b.invariant.1 ∙ fits_not c.args.form.now c.args.fields.now c.loop-b.b-index c.loop-b.n (omega arith) (sym c.is_own.ensures ∙ c.if-not-is_own.true))
 
 pub overflow_add-n : goal.overflow_add-n
-overflow_add-n c = let t = takes-le (get_or c.args.form.now c.loop-i.i 0) in omega (arith, c.takes-n.ensures)
+overflow_add-n c = let t = takes-le (get_or c.args.form.now c.loop-b.b-index 0) in omega (arith, c.takes-n.ensures)
 
-pub loop-i-preserved : goal.loop-i-preserved
-loop-i-preserved c = let t = takes-le (get_or c.args.form.now c.loop-i.i 0) in (omega (arith, c.takes-n.ensures), omega arith, c.loop-i.invariant.2 ∙ fits_more c.args.form.now c.args.fields.now c.loop-i.i c.loop-i.n (omega arith) c.takes-n.result c.takes-n.ensures (sym c.is_own.ensures ∙ c.if-not-is_own.false))
+pub loop-b-preserved : goal.loop-b-preserved
+loop-b-preserved c = let t = takes-le (get_or c.args.form.now c.loop-b.b-index 0) in (omega (arith, c.takes-n.ensures), c.loop-b.invariant.1 ∙ fits_more c.args.form.now c.args.fields.now c.loop-b.b-index c.loop-b.n (omega arith) c.takes-n.result c.takes-n.ensures (sym c.is_own.ensures ∙ c.if-not-is_own.false))
 
 pub returns : goal.returns
-returns c = sym (c.loop-i.invariant.2 ∙ fits-none c.args.form.now c.args.fields.now c.loop-i.i c.loop-i.n (omega arith))
+returns c = sym (c.loop-b.invariant.1 ∙ fits-none c.args.form.now c.args.fields.now c.loop-b.b-index c.loop-b.n (omega arith))

@@ -1,29 +1,30 @@
-use Rattle.script.proofs.ByteLaws.{found_by_sign, blank-missing, blank-found, letter-missing, letter-found, first-inside}
+use Rattle.script.proofs.ByteLaws.{found_by_sign, blank-missing, blank-found, first-none, first-same, first-differs, letter-missing, letter-found}
 use native.Mathlib.Omega.{arith}
-use lib.ListN.{drop}
 use mathlib.Core.Path.{sym, ◌∙◌}
 use Rattle.script.proofs.found_by.Goals as goal
 
-pub returns-then-not-blank_at : goal.returns-then-not-blank_at
-returns-then-not-blank_at c = blank-missing c.args.b (drop c.args.at c.args.line.now) (sym c.blank_at.ensures ∙ c.if-not-blank_at.true) ∙ found_by_sign _ _ _ c.sign_of-sign.ensures c.in-Blank.is (drop c.args.at c.args.line.now)
-
-pub returns-then-not-stands_at : goal.returns-then-not-stands_at
-returns-then-not-stands_at c = letter-missing c.args.b (drop c.args.at c.args.line.now) (sym c.stands_at.ensures ∙ c.if-not-stands_at.true) ∙ found_by_sign _ _ _ c.sign_of-sign.ensures c.in-Letter.is (drop c.args.at c.args.line.now)
-
-pub overflow_add-next : goal.overflow_add-next
-overflow_add-next c = omega (arith, first-inside _ c.args.line.now c.args.at (sym c.stands_at.ensures ∙ c.if-not-stands_at.false))
+pub returns-then-not-blank_first : goal.returns-then-not-blank_first
+returns-then-not-blank_first c = blank-missing c.args.b c.args.line.now (sym c.blank_first.ensures ∙ c.if-not-blank_first.true) ∙ found_by_sign _ _ _ c.sign_of-sign.ensures c.in-Blank.is c.args.line.now
 
 pub returns-in-Fixed : goal.returns-in-Fixed
-returns-in-Fixed c = found_by_sign _ _ _ c.sign_of-sign.ensures c.in-Fixed.is (drop c.args.at c.args.line.now)
+returns-in-Fixed c = found_by_sign _ _ _ c.sign_of-sign.ensures c.in-Fixed.is c.args.line.now
 
 pub returns-in-Number : goal.returns-in-Number
-returns-in-Number c = c.numeral.ensures ∙ found_by_sign _ _ _ c.sign_of-sign.ensures c.in-Number.is (drop c.args.at c.args.line.now)
+returns-in-Number c = c.numeral.ensures ∙ found_by_sign _ _ _ c.sign_of-sign.ensures c.in-Number.is c.args.line.now
 
-pub returns-else-not-blank_at : goal.returns-else-not-blank_at
-returns-else-not-blank_at c = blank-found c.args.b (drop c.args.at c.args.line.now) _ (sym c.blank_at.ensures ∙ c.if-not-blank_at.false) c.past_blanks-next.ensures ∙ found_by_sign _ _ _ c.sign_of-sign.ensures c.in-Blank.is (drop c.args.at c.args.line.now)
-
-pub returns-else-not-stands_at : goal.returns-else-not-stands_at
-returns-else-not-stands_at c = letter-found _ c.args.line.now c.args.at (sym c.stands_at.ensures ∙ c.if-not-stands_at.false) ∙ found_by_sign _ _ _ c.sign_of-sign.ensures c.in-Letter.is (drop c.args.at c.args.line.now)
+pub returns-else-not-blank_first : goal.returns-else-not-blank_first
+returns-else-not-blank_first c = blank-found c.args.b c.args.line.now _ (sym c.blank_first.ensures ∙ c.if-not-blank_first.false) c.past_blanks-rest.ensures ∙ found_by_sign _ _ _ c.sign_of-sign.ensures c.in-Blank.is c.args.line.now
 
 pub returns-in-Nothing : goal.returns-in-Nothing
-returns-in-Nothing c = found_by_sign _ _ _ c.sign_of-sign.ensures c.in-Nothing.is (drop c.args.at c.args.line.now)
+returns-in-Nothing c = found_by_sign _ _ _ c.sign_of-sign.ensures c.in-Nothing.is c.args.line.now
+
+pub returns-else-first-b : goal.returns-else-first-b
+returns-else-first-b c =
+    let is = first-same c.args.b c.args.line.now c.in-len1-up.len_at_least c.if-first-b.false in
+    letter-found c.args.b c.args.line.now is ∙ found_by_sign _ _ _ c.sign_of-sign.ensures c.in-Letter.is c.args.line.now
+
+pub returns-then-first-b : goal.returns-then-first-b
+returns-then-first-b c = letter-missing c.args.b c.args.line.now (first-differs c.args.b c.args.line.now c.if-first-b.true) ∙ found_by_sign _ _ _ c.sign_of-sign.ensures c.in-Letter.is c.args.line.now
+
+pub returns-in-empty : goal.returns-in-empty
+returns-in-empty c = letter-missing c.args.b c.args.line.now (first-none c.args.b c.args.line.now (omega arith)) ∙ found_by_sign _ _ _ c.sign_of-sign.ensures c.in-Letter.is c.args.line.now

@@ -1,7 +1,7 @@
 use Rattle.script.specs.Forms.{table}
 use native.Mathlib.Omega.{arith}
 use mathlib.Core.Path.{refl, sym, ◌∙◌}
-use lib.ListN.{take, drop}
+use lib.ListN.{take}
 use Rattle.script.proofs.ReadLaws.{line-passes, line-says}
 use Rattle.script.proofs.line_says.Goals as goal
 
@@ -16,6 +16,6 @@ pub returns : goal.returns
 returns c =
     let a = c.args in
     let p = c.first_said in record {
-      room_after = p.ensures.room_after ∙ line-says a.letter a.line.now (take a.from a.room.now) (drop c.past_blanks-start.result a.line.now) (sym c.ended.ensures ∙ c.if-ended.false) c.past_blanks-start.ensures;
+      room_after = p.ensures.room_after ∙ line-says a.letter a.line.now (take a.from a.room.now) c.past_blanks-rest.result.now (sym c.ended.ensures ∙ c.if-ended.false) c.past_blanks-rest.ensures;
       room_unchanged = p.ensures.room_unchanged;
     }

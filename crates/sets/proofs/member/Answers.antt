@@ -7,8 +7,8 @@ use Rattle.sets.proofs.SetLaws.{mem-past}
 use Rattle.sets.proofs.member.Goals as goal
 
 pub returns-then-t-ge-TRANSACTIONS : goal.returns-then-t-ge-TRANSACTIONS
-returns-then-t-ge-TRANSACTIONS c = sym (mem-past c.before.args.set c.before.args.t c.before.ranges.set.fits c.if-t-ge-TRANSACTIONS.true)
+returns-then-t-ge-TRANSACTIONS c = sym (mem-past c.args.set c.args.t c.ranges.set.fits c.if-t-ge-TRANSACTIONS.true)
 
 pub returns : goal.returns
 unfolding mem
-returns c = ap (λ (n : ℕ). eqb n 1) (and_mask (c.before.args.set / 2 ^ c.before.args.t) 1)
+returns c = ap (λ (n : ℕ). eqb n 1) (and_mask (c.args.set / 2 ^ c.args.t) 1)

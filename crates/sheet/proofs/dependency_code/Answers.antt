@@ -1,4 +1,3 @@
-use borrow.Author.Rules.{rules}
 use native.Mathlib.Omega.{arith}
 use Prim.Native.Nat.{ℕ, ◌+◌, ◌*◌}
 use mathlib.Core.Path.{ap, ◌∙◌}
@@ -8,6 +7,6 @@ use Rattle.sheet.proofs.dependency_code.Goals as goal
 
 pub returns : goal.returns
 returns c =
-    let d = c.before.before.before.args.d in
+    let d = c.args.d in
     ap (λ (k : ℕ). dependency_in (d.dependent + 256 * d.base + 65536 * k)) c.number-k.ensures
     ∙ dependency-back d (omega arith) (omega arith)

@@ -1,4 +1,3 @@
-use borrow.Author.Rules.{rules}
 use Prim.Native.Nat.{◌/◌, ◌%◌}
 use Rattle.sheet.specs.Sheet.{dependency_in}
 use Rattle.sheet.proofs.dependency_in.Goals as goal
@@ -6,5 +5,5 @@ use Rattle.sheet.proofs.dependency_in.Goals as goal
 pub returns : goal.returns
 unfolding dependency_in
 returns c =
-    let a = c.before.args in
+    let a = c.args in
     λ i. record { dependent = a.c % 256; base = a.c / 256 % 256; kind = c.of-kind.ensures i }

@@ -1,4 +1,3 @@
-use borrow.Author.Rules.{rules}
 use Rattle.sheet.proofs.CodeLaws.{packed-back}
 use Rattle.sheet.proofs.packed.Goals as goal
 

@@ -2,15 +2,13 @@ use borrow.Author.Rules.{rules}
 use native.Mathlib.Omega.{arith}
 use mir.Val.{Fits}
 use mir.Syntax.{w8}
-use Prim.Native.Nat.{ℕ, ◌+◌, ◌-◌, ◌≤◌, min}
 use mathlib.Core.Path.{◌≡◌, ◌∙◌, subst⁻¹}
 use lib.ListN.{length, get_or, length-set}
-use Rattle.terms.specs.Limits.{most_sagas, most_transactions}
-use Rattle.tables.specs.Sorts.{number_of_all}
-use Rattle.tables.proofs.SortLaws.{Passed, passed_none, passed_here, passed-more}
+use Rattle.terms.specs.Limits.{most_sagas}
+use Rattle.tables.proofs.SortLaws.{passed_none, passed_here, passed-more}
 use Rattle.sheet.specs.Sheet.{SmallSort}
 use Rattle.sheet.proofs.CodeLaws.{sort-small}
-use Rattle.sheet.proofs.HeldLaws.{passed-rest, SortsTo, sorts-more}
+use Rattle.sheet.proofs.HeldLaws.{passed-rest, sorts-more}
 use Rattle.sheet.proofs.put_sorts.Goals as goal
 
 pub loop-t-init : goal.loop-t-init

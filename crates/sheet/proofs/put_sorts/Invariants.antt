@@ -1,16 +1,10 @@
-use borrow.Author.Rules.{rules}
-use native.Mathlib.Omega.{arith}
-use mir.Val.{Fits}
-use mir.Syntax.{w8}
 use Prim.Native.Nat.{ℕ, ◌+◌, ◌-◌, ◌≤◌, min}
-use mathlib.Core.Path.{◌≡◌, ◌∙◌, subst⁻¹}
-use lib.ListN.{length, get_or, length-set}
+use mathlib.Core.Path.{◌≡◌}
+use lib.ListN.{length}
 use Rattle.terms.specs.Limits.{most_sagas, most_transactions}
 use Rattle.tables.specs.Sorts.{number_of_all}
-use Rattle.tables.proofs.SortLaws.{Passed, passed_none, passed_here, passed-more}
-use Rattle.sheet.specs.Sheet.{SmallSort}
-use Rattle.sheet.proofs.CodeLaws.{sort-small}
-use Rattle.sheet.proofs.HeldLaws.{passed-rest, SortsTo, sorts-more}
+use Rattle.tables.proofs.SortLaws.{Passed}
+use Rattle.sheet.proofs.HeldLaws.{SortsTo}
 use Rattle.sheet.proofs.put_sorts.Given as goal
 
 abbrev pub invariant-loop-t : goal.invariant-loop-t

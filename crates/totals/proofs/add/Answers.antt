@@ -1,6 +1,5 @@
 use native.Mathlib.Omega.{arith}
 use Rattle.totals.proofs.FiguresLaws.{one_more, one-too-many}
-use borrow.Author.Rules.{rules}
 use Rattle.totals.proofs.add.Goals as goal
 
 pub returns-then-totals-ge-BOOKS : goal.returns-then-totals-ge-BOOKS

@@ -1,15 +1,11 @@
-use native.Mathlib.Omega.{arith}
 use Prim.Native.Nat.{◌+◌}
 use mathlib.Core.Path.{ap, ◌∙◌, subst⁻¹}
 use Rattle.laws.specs.Index.{one}
 use Rattle.totals.specs.Figures.{grown, with_book}
 use Rattle.totals.specs.declared.SagaCounts.{SagaCounts}
-use Rattle.totals.proofs.FiguresLaws.{Small, counts-small, one-small}
-use borrow.Author.Rules.{rules}
+use Rattle.totals.proofs.CountLaws.{from-one}
+use Rattle.totals.proofs.FiguresLaws.{Small, counts-small}
 use Rattle.totals.proofs.with_book.Goals as goal
-
-pub grown-refused-requires : goal.grown-refused-requires
-grown-refused-requires c = omega (arith, c.one.ensures, one-small c.is_refused.result)
 
 pub grown-begun-requires : goal.grown-begun-requires
 grown-begun-requires c = (subst⁻¹ Small c.counts_of-counts.ensures (counts-small _ _)).begun
@@ -31,7 +27,7 @@ returns c =
     λ k.
     record {
       books = t.books + 1;
-      refused = (c.grown-refused.ensures ∙ ap (grown t.refused) (c.one.ensures ∙ ap one c.is_refused.ensures)) k;
+      refused = (c.grown-refused.ensures ∙ ap (grown t.refused) (c.from.ensures ∙ from-one _ ∙ ap one c.is_refused.ensures)) k;
       begun = (c.grown-begun.ensures ∙ ap (λ (n : SagaCounts). grown t.begun n.begun) counts) k;
       committed = (c.grown-committed.ensures ∙ ap (λ (n : SagaCounts). grown t.committed n.committed) counts) k;
       backed = (c.grown-backed.ensures ∙ ap (λ (n : SagaCounts). grown t.backed n.backed) counts) k;

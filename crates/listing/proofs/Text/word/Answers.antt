@@ -8,22 +8,19 @@ use Rattle.listing.specs.Texts.{text_of, with_byte, with_all}
 use Rattle.listing.proofs.TextLaws.{all_none, all_more}
 use Rattle.listing.proofs.Text.word.Goals as goal
 
-pub loop-i-init : goal.loop-i-init
-loop-i-init c = (omega arith, sym (all_none _))
+pub loop-b-init : goal.loop-b-init
+loop-b-init c = sym (all_none _)
 
-pub loop-i-preserved : goal.loop-i-preserved
-loop-i-preserved c =
-    let l = c.loop-i in
+pub loop-b-preserved : goal.loop-b-preserved
+loop-b-preserved c =
+    let l = c.loop-b in
     let word = c.args.letters.now in
-    let text = text_of c.args.self in (
-      omega arith,
-      c.byte-next.ensures
-          ∙ ap (λ (t : List ℕ). with_byte t (get_or word l.i 0)) l.invariant.1
-          ∙ sym (all_more text word l.i (omega arith)),
-    )
+    c.byte-text.ensures
+    ∙ ap (λ (t : List ℕ). with_byte t (get_or word l.b-index 0)) l.invariant
+    ∙ sym (all_more (text_of c.args.self) word l.b-index (omega arith))
 
 pub returns : goal.returns
 returns c =
     let word = c.args.letters.now in
-    c.loop-i.invariant.1
-    ∙ ap (with_all (text_of c.args.self)) (take_all c.loop-i.i word (omega arith))
+    c.loop-b.invariant
+    ∙ ap (with_all (text_of c.args.self)) (take_all c.loop-b.b-index word (omega arith))

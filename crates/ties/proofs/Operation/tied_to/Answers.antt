@@ -3,4 +3,4 @@ use Rattle.ties.proofs.Operation.tied_to.Goals as goal
 
 pub returns : goal.returns
 unfolding tied_to
-returns c = rw (c.before.conflicts.ensures, c.is_aborted.ensures)
+returns c = rw (c.conflicts.ensures, c.is_aborted.ensures)

@@ -1,4 +1,3 @@
-use Prim.Native.Nat.{◌-◌, ◌≤◌}
 use mathlib.Core.Path.{◌≡◌}
 use Rattle.laws.specs.Index.{grid}
 use Rattle.terms.specs.Limits.{most_transactions}
@@ -7,14 +6,8 @@ use Rattle.ties.proofs.Ops.pairs.Given as goal
 
 -- the ties among the first j operations, and of the first i to operation j, are marked
 abbrev pub invariant-loop-i : goal.invariant-loop-i
-invariant-loop-i l = (l.i ≤ l.j) × (l.table ≡ grid most_transactions (into l.self l.j l.i))
-
-abbrev pub decreases-loop-i : goal.decreases-loop-i
-decreases-loop-i l = l.j - l.i
+invariant-loop-i l = l.table ≡ grid most_transactions (into l.self l.j l.i)
 
 -- the ties among the first j operations are marked
 abbrev pub invariant-loop-j : goal.invariant-loop-j
-invariant-loop-j l = (l.j ≤ l.n) × (l.table ≡ grid most_transactions (before_by l.self l.j))
-
-abbrev pub decreases-loop-j : goal.decreases-loop-j
-decreases-loop-j l = l.n - l.j
+invariant-loop-j l = l.table ≡ grid most_transactions (before_by l.self l.j)

@@ -1,4 +1,3 @@
-use borrow.Author.Rules.{rules}
 use Rattle.totals.specs.Figures.{share_of}
 use Rattle.totals.proofs.Totals.share.Goals as goal
 

@@ -1,4 +1,0 @@
-use Rattle.rules.proofs.Parent.fits.Goals as goal
-
-pub returns-in-Under : goal.returns-in-Under
-returns-in-Under c = rw c.in-Under.is
