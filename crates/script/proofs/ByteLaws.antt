@@ -2,16 +2,17 @@
 use mathlib.Core.Path.{◌≡◌, refl, sym, ap, ◌∙◌}
 use mathlib.Core.Bool.{Bool, true, false, ◌&&◌}
 use mathlib.Core.List.{List, [], ◌∷◌}
-use Prim.Native.Nat.{ℕ, ◌+◌, ◌-◌, ◌*◌, ◌≤◌, ◌<◌}
+use Prim.Native.Nat.{ℕ, suc, ◌+◌, ◌-◌, ◌*◌, ◌≤◌, ◌<◌}
 use native.Mathlib.Numerals.{add-one}
 use native.Mathlib.Omega.{arith}
-use lib.ListN.{length, get_or, take, drop, drop_of_length-le}
-use lib.Seq.{drop-cons}
+use lib.ListN.{length, get_or, take, drop, drop_of_length-le, length-drop}
+use lib.Seq.{drop-cons, drop-drop}
 use lib.Dec.{ltb, leb, eqb}
 use borrow.Author.Tests.{eq-eqb, ne_eqb, lt-ltb, le-ltb, le-leb, lt-leb, leb-true, ltb-true}
-use Rattle.laws.proofs.Bools.{on_and}
+use Rattle.laws.proofs.Bools.{bool_cases, on_and}
 use Rattle.laws.proofs.Decisions.{lt-or}
-use Rattle.plan.specs.Lines.{past_blanks}
+use Rattle.plan.specs.Lines.{is_blank, past_blanks}
+use Rattle.plan.proofs.EntryLaws.{past-le}
 use Rattle.plan.proofs.TextLaws.{drop-whole}
 use Rattle.script.specs.declared.Sign.{Sign}
 use Rattle.script.specs.declared.Sign.TheVariants.{Fixed, Number, Blank, Letter, Nothing}
@@ -105,6 +106,27 @@ module _ (s : List ℕ) (i : ℕ) where
       → figures_from v (drop i s) ≡ figures_from (10 * v + (get_or s i 0 - 48)) (drop (i + 1) s)
   unfolding figures_from
   figures-more v h e k = ap (figures_from v) (drop_more h) ∙ rw (e, le-ltb largest (10 * v + (get_or s i 0 - 48)) k)
+
+-- ---- blanks
+
+past-suffix : (s : List ℕ) → drop (length s - length (past_blanks true s)) s ≡ past_blanks true s
+unfolding past_blanks
+past-suffix [] = refl
+past-suffix (b ∷ s) =
+    let l = past-le true s in
+    let more : suc (length s) - length (past_blanks true s) ≡ suc (length s - length (past_blanks true s)) = omega arith in
+    let none : suc (length s) - suc (length s) ≡ 0 = omega arith in
+    bool_cases (is_blank true b) (λ e. rw e (ap (λ (k : ℕ). drop k (b ∷ s)) more ∙ past-suffix s)) (λ e. rw e (ap (λ (k : ℕ). drop k (b ∷ s)) none))
+
+-- the place behind the blanks, from the length of what is left
+pub past-place : (s rest : List ℕ) (at : ℕ) → at ≤ length s → rest ≡ past_blanks true (drop at s)
+    → drop (length s - length rest) s ≡ past_blanks true (drop at s)
+past-place s rest at h e =
+    let l = past-le true (drop at s) in
+    let q : length s - length rest ≡ at + (length (drop at s) - length (past_blanks true (drop at s))) = omega (arith, ap length e, length-drop at s) in
+    ap (λ (k : ℕ). drop k s) q
+    ∙ sym (drop-drop (length (drop at s) - length (past_blanks true (drop at s))) at s)
+    ∙ past-suffix (drop at s)
 
 -- ---- the end of a line
 
